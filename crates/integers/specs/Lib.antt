@@ -1,0 +1,12 @@
+pub mod Difference
+pub mod Ring
+pub mod Order
+pub mod Inequality
+pub mod Floor
+pub mod Within
+pub mod Range
+pub mod Machine
+pub mod Operations
+pub mod Table
+pub mod Sample
+pub mod Examples
