@@ -1,0 +1,5 @@
+pub mod Positions
+pub mod Words
+mod Rounding
+mod Exact
+mod Ratio
