@@ -17,7 +17,7 @@ use Rattle.integers.specs.Inequality.{by-nn, goal≤, hyp≤}
 use Rattle.integers.specs.Floor.{floorDiv, roundDiv, IsFloor, floor-eq, floor-bias, round-is}
 use Rattle.integers.specs.Within.{Within, w-add, w-mul}
 use Rattle.integers.specs.Range.{_∈_, _to_, ±_, i-mul, w-in}
-use Rattle.integers.specs.Machine.{Known, none, _&_, fits, gives, mach, raw, rd}
+use Rattle.integers.specs.Machine.{Known, none, _&_, safe, fits, gives, mach, rd}
 use Rattle.integers.specs.Operations.{Reads, reads, r-shr, r-cast}
 use Rattle.integers.specs.Table.{every-at}
 use Rattle.integers.specs.Sample.{signed, bits}
@@ -121,6 +121,10 @@ module _ (a b m : ℤ) (p : Within 32768 a) (q : Within 32768 b) (r : Within 163
   -- Operations: ((a + m) >> 2) as i16
   narrowed : Reads (toZ w16 (ofZ w16 (shrZ (rd (rd a +ℤ rd m)) 4))) (floorDiv (a +ℤ m) 4) (negsuc 12287 to pos 12288)
   narrowed = r-cast w16 (r-shr 4 (lit< tt) (reads known (var 0 :+ var 2) tt)) tt
+
+-- the largest range whose square fits 64 bits
+largest : T (safe (± 3037000499 ∷ []) (var 0 :* var 0))
+largest = tt
 
 -- Table
 odd : (k : ℕ) → k < 4 → T (eqb (getD (1 ∷ 3 ∷ 5 ∷ 7 ∷ []) k 0) (2 * k + 1))

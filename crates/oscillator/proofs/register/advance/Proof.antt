@@ -35,7 +35,9 @@ add-result : tie.Need-add-result
 add-result c =
     let s = c .before .before .before in
     let a = s .args in
-    record { fits = omega (arith, c .before .before .carry .ensures, carry-le (a .old) (a .new), c .top-bit .ensures, top-one (a .new) (s .fits .new .fits)) }
+    let old = top-one (a .old) (s .fits .old .fits) in
+    let new = top-one (a .new) (s .fits .new .fits) in
+    record { fits = omega (arith, c .before .before .carry .ensures, carry-le (a .old) (a .new), c .top-bit .ensures) }
 
 top-bit-requires-2 : tie.Need-top-bit-requires-2
 top-bit-requires-2 c κs = search needs

@@ -61,14 +61,16 @@ returns c =
     let n = s .args .nearest in
     let r = s .args .register in
     let h = s .fits .register .fits in
-    is (known r h) less tt ∙ ap (λ (z : ℤ). z -ℤ pos (2 ^ 32)) (widened r h .same) ∙ above n r (up n r (c .before .if1 .taken) h (c .if2 .taken))
+    let l : 2 ^ 31 ≤ r = omega (arith, c .if2 .taken) in
+    is (known r h) less tt ∙ ap (λ (z : ℤ). z -ℤ pos (2 ^ 32)) (widened r h .same) ∙ above n r (up n r (c .before .if1 .taken) h l)
 
 returns-2 : tie.Need-returns-2
 returns-2 c =
     let s = c .before .before in
     let n = s .args .nearest in
     let r = s .args .register in
-    widened r (s .fits .register .fits) .same ∙ here n r (down n r (c .before .if1 .taken) (c .if2 .left))
+    let l : r < 2 ^ 31 = omega (arith, c .if2 .left) in
+    widened r (s .fits .register .fits) .same ∙ here n r (down n r (c .before .if1 .taken) l)
 
 returns-3 : tie.Need-returns-3
 returns-3 c =

@@ -1,0 +1,94 @@
+// Runs the settled examples of document 01 that are not starred, and then settings at the edges of the rules, and prints what it finds, a line for each. The file
+// `stdout` has what document 01 says. The starred examples are theorems, in specs/Starred.antt.
+use libc::STDOUT_FILENO;
+use oscillator::Setting;
+use oscillator::WordAnswer;
+
+// The word or the refusal of a setting, behind its description.
+fn show(description: &[u8], setting: Setting) {
+    io::write_all(STDOUT_FILENO, description);
+    match oscillator::word_of(setting) {
+        WordAnswer::Word(w) => {
+            io::write_all(STDOUT_FILENO, b": word ");
+            io::print_decimal(STDOUT_FILENO, w);
+        }
+        WordAnswer::Refused(n) => {
+            io::write_all(STDOUT_FILENO, b": refusal ");
+            io::print_decimal(STDOUT_FILENO, n as u64);
+        }
+    }
+    io::write_all(STDOUT_FILENO, b"\n");
+}
+
+fn settled_ratios() {
+    show(
+        b"ratio 4 + 2^-34",
+        Setting::Ratio(4.0 + 1.0 / 17179869184.0),
+    );
+    show(b"ratio 4 + 2^-33", Setting::Ratio(4.0 + 1.0 / 8589934592.0));
+    show(b"ratio 2^1000", Setting::Ratio(1.0715086071862673e301));
+}
+
+// Zeros, the smallest and the largest float, and what is not finite.
+fn extreme_ratios() {
+    show(b"ratio 0", Setting::Ratio(0.0));
+    show(b"ratio -0", Setting::Ratio(-0.0));
+    show(b"ratio 2^-1074", Setting::Ratio(5e-324));
+    show(b"ratio -2^-1074", Setting::Ratio(-5e-324));
+    show(
+        b"ratio 2^1024 - 2^971",
+        Setting::Ratio(1.7976931348623157e308),
+    );
+    show(b"ratio infinity", Setting::Ratio(1.0 / 0.0));
+    show(b"ratio -infinity", Setting::Ratio(-1.0 / 0.0));
+    show(b"ratio not a number", Setting::Ratio(0.0 / 0.0));
+}
+
+// Around a half word, around one and a half, and around the largest word.
+fn rounded_ratios() {
+    show(
+        b"ratio below 1/2 word",
+        Setting::Ratio(0.49999999999999994 / 4294967296.0),
+    );
+    show(b"ratio of 1/2 word", Setting::Ratio(0.5 / 4294967296.0));
+    show(
+        b"ratio below 3/2 words",
+        Setting::Ratio(1.4999999999999998 / 4294967296.0),
+    );
+    show(b"ratio of 3/2 words", Setting::Ratio(1.5 / 4294967296.0));
+    show(b"ratio 1", Setting::Ratio(1.0));
+    show(b"ratio 4", Setting::Ratio(4.0));
+    show(b"ratio below 8", Setting::Ratio(7.999999999999999));
+    show(b"ratio 8", Setting::Ratio(8.0));
+}
+
+fn words() {
+    show(b"word 0", Setting::Word(0));
+    show(b"word 1", Setting::Word(1));
+    show(b"word 2^34", Setting::Word(17179869184));
+    show(b"word 2^34 + 1", Setting::Word(17179869185));
+    show(b"word 2^64 - 1", Setting::Word(18446744073709551615));
+}
+
+fn rates() {
+    show(b"rates 0 and 0", Setting::Rates(0, 0));
+    show(b"rates 7 and 0", Setting::Rates(7, 0));
+    show(b"rates 0 and 5", Setting::Rates(0, 5));
+    show(b"rates 4 and 1", Setting::Rates(4, 1));
+    show(b"rates 5 and 1", Setting::Rates(5, 1));
+    show(b"rates 48000 and 44100", Setting::Rates(48000, 44100));
+    show(b"rates 1 and 2^32 - 1", Setting::Rates(1, 4294967295));
+    show(b"rates 2^32 - 1 and 1", Setting::Rates(4294967295, 1));
+    show(
+        b"rates 2^32 - 1 and 2^32 - 1",
+        Setting::Rates(4294967295, 4294967295),
+    );
+}
+
+fn main() {
+    settled_ratios();
+    extreme_ratios();
+    rounded_ratios();
+    words();
+    rates();
+}
