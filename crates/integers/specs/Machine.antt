@@ -12,6 +12,7 @@ use Prim.Native.Nat.{ℕ, zero, suc, _-_, _^_}
 use native.Mathlib.Omega.{arith}
 use lib.Dec.{T}
 use lib.IntN.{ℤ, pos, negsuc, negℤ, _+ℤ_, _-ℤ_, _*ℤ_}
+use lib.ListN.{getD}
 use lib.Signed.{_<ℤ_, ltZ, ltZ-yes, leZ-yes}
 use mir.Syntax.{Width, w64}
 use mir.Val.{SFits, hbits, toZ, ofZ}
@@ -48,9 +49,7 @@ raw ρ (neg e) = negℤ (mach ρ e)
 
 -- ---- the range of e, and the test that each of its steps fits
 abbrev pub atI : List Iv → ℕ → Iv
-atI [] i = pos 0 to pos 0
-atI (r ∷ β) zero = r
-atI (r ∷ β) (suc i) = atI β i
+atI β i = getD β i (pos 0 to pos 0)
 
 abbrev pub range : List Iv → Expr → Iv
 range β (var i) = atI β i

@@ -10,6 +10,7 @@ use Prim.Native.Nat.{ℕ, zero, suc, compare, Ordering, Ordering·lt, Ordering·
 use native.Mathlib.Omega.{arith}
 use lib.Dec.{T, leb, isEq, eqb→eq}
 use lib.IntN.{ℤ, pos, negsuc, negℤ, _+ℤ_, _-ℤ_, _*ℤ_, +ℤ-assoc, +ℤ-comm, zero-*ℤ, *ℤ-comm, negℤ-+ℤ, -ℤ-+ℤ-cancel, +ℤ-idl}
+use lib.ListN.{getD}
 use mir.Syntax.{Width}
 use Rattle.integers.specs.Difference.{rep, rep-add, rep-mul, rep-eq, *ℤ-assoc, *ℤ-dist, dist-*ℤ, neg-*ℤ, one-*ℤ}
 
@@ -25,9 +26,7 @@ pub data Expr : Type 0 where
   neg : Expr → Expr
 
 abbrev pub at : List ℤ → ℕ → ℤ
-at [] i = pos 0
-at (x ∷ ρ) zero = x
-at (x ∷ ρ) (suc i) = at ρ i
+at ρ i = getD ρ i (pos 0)
 
 abbrev pub eval : List ℤ → Expr → ℤ
 eval ρ (var i) = at ρ i

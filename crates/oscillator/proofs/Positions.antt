@@ -63,12 +63,30 @@ top-le old new h = go (ltb new old) refl
     go true e = omega arith
     go false e = omega (arith, ltb-false new old e)
 
--- ---- the register's advance is the basepoint's, for every position and every word
+-- ---- basepoints: of a register, which is at most 1, and in the order of positions
+pub basepoint-of : (nearest : Bool) {b : Bool} (r : ℕ) → r < 2 ^ 32 → nearest ≡ b → basepoint nearest r ≡ cond b (topBitOf r) 0
+unfolding basepoint topBitOf
+basepoint-of nearest r h e = by-case nearest ∙ ap (λ (n : Bool). cond n (topBitOf r) 0) e
+  where
+    by-case : (n : Bool) → basepoint n r ≡ cond n (topBitOf r) 0
+    by-case true = omega arith
+    by-case false = omega arith
+
+pub basepoint-phase : (nearest : Bool) (p : ℕ) → p < 2 ^ 32 → basepoint nearest p ≤ 1
+unfolding basepoint
+basepoint-phase true p h = omega arith
+basepoint-phase false p h = omega arith
+
+pub basepoint-mono : (nearest : Bool) {p q : ℕ} → p ≤ q → basepoint nearest p ≤ basepoint nearest q
+unfolding basepoint
+basepoint-mono nearest {p} {q} h = omega arith
+
 -- kernel 1: the nearest sample is one on where the top bit is set
 top-is : (q : ℕ) → basepoint true q ≡ q / 2 ^ 32 + topBitOf (registerOf q)
 unfolding basepoint topBitOf registerOf
 top-is q = omega arith
 
+-- ---- the register's advance is the basepoint's, for every position and every word
 whole : (q w : ℕ) → (q + w) / 2 ^ 32 ≡ q / 2 ^ 32 + (w / 2 ^ 32 + carryOf (registerOf q) (registerOf (q + w)))
 whole q w = omega (arith, carry-is q w)
 

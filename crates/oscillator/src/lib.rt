@@ -3,6 +3,7 @@ mod register;
 mod settings;
 
 pub use register::advance;
+pub use register::basepoint;
 pub use register::carry;
 pub use register::filter_fraction;
 pub use register::step;

@@ -1,7 +1,7 @@
-// The oscillator's 32-bit register: its step, the carry, the advance of the basepoint, and the fraction that the filter uses.
+// The oscillator's 32-bit register: its step, the carry, the basepoint and its advance, and the fraction that the filter uses.
 // `nearest` tells how a kernel places its basepoint: at the nearest sample (kernel 1), or at the sample before (kernels 0, 2, 3).
 ghost use mathlib.Core.Path.{_≡_};
-ghost use Rattle.oscillator.specs.Position.{fraction, fourteenBits};
+ghost use Rattle.oscillator.specs.Position.{basepoint, fraction, fourteenBits};
 ghost use Rattle.oscillator.specs.Register.{stepped, carryOf, topBitOf, advanceOf};
 
 // The register one word on: it wraps.
@@ -23,6 +23,16 @@ fn top_bit(register: u32) -> u64
     ensures { λ r. ⌜ r ≡ topBitOf register ⌝ }
 {
     (register / 0x8000_0000) as u64
+}
+
+// The basepoint of a start phase: 1 where it is rounded up to the next sample, else 0.
+pub fn basepoint(nearest: bool, phase: u32) -> u64
+    ensures { λ r. ⌜ r ≡ basepoint nearest phase ⌝ }
+{
+    if nearest {
+        return top_bit(phase);
+    }
+    0
 }
 
 // By how many samples the basepoint goes on when the register went from `old` to `new` by `word`.

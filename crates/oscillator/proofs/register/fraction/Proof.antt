@@ -1,6 +1,6 @@
 -- `oscillator::register::fraction` meets its contract: the basepoint of a register is 1 where it is rounded up, else 0. Assumes nothing.
 use mathlib.Core.Path.{_≡_, ap, _∙_}
-use mathlib.Core.Bool.{Bool, true, false}
+use mathlib.Core.Bool.{Bool}
 use mathlib.Core.List.{[], _∷_}
 use Prim.Native.Nat.{ℕ, _^_, _≤_, _<_}
 use native.Mathlib.Omega.{arith}
@@ -15,21 +15,19 @@ use Rattle.integers.specs.Ring.{Expr, loc, lit, _:-_}
 use Rattle.integers.specs.Machine.{Known, none, _&_, fits, is}
 use Rattle.integers.specs.Operations.{Reads, r-unsigned, r-in}
 use Rattle.oscillator.specs.Position.{basepoint, fraction}
+use Rattle.oscillator.specs.Register.{topBitOf}
+use Rattle.oscillator.proofs.Positions.{basepoint-of}
 use Rattle.oscillator.proofs.register.fraction.Statement.{statement}
 use Rattle.oscillator.proofs.register.fraction.Tie as tie
 
 -- ---- the definition, by where the basepoint is
-up : (nearest : Bool) (r : ℕ) → nearest ≡ true → r < 2 ^ 32 → 2 ^ 31 ≤ r → basepoint nearest r ≡ 1
-unfolding basepoint
-up nearest r n h l = rw n (omega arith)
+set : (r : ℕ) → r < 2 ^ 32 → 2 ^ 31 ≤ r → topBitOf r ≡ 1
+unfolding topBitOf
+set r h l = omega arith
 
-down : (nearest : Bool) (r : ℕ) → nearest ≡ true → r < 2 ^ 31 → basepoint nearest r ≡ 0
-unfolding basepoint
-down nearest r n h = rw n (omega arith)
-
-cut : (nearest : Bool) (r : ℕ) → nearest ≡ false → r < 2 ^ 32 → basepoint nearest r ≡ 0
-unfolding basepoint
-cut nearest r n h = rw n (omega arith)
+clear : (r : ℕ) → r < 2 ^ 31 → topBitOf r ≡ 0
+unfolding topBitOf
+clear r h = omega arith
 
 above : (nearest : Bool) (r : ℕ) → basepoint nearest r ≡ 1 → pos r -ℤ pos (2 ^ 32) ≡ fraction nearest r
 unfolding fraction
@@ -62,15 +60,16 @@ returns c =
     let r = s .args .register in
     let h = s .fits .register .fits in
     let l : 2 ^ 31 ≤ r = omega (arith, c .if2 .taken) in
-    is (known r h) less tt ∙ ap (λ (z : ℤ). z -ℤ pos (2 ^ 32)) (widened r h .same) ∙ above n r (up n r (c .before .if1 .taken) h l)
+    is (known r h) less tt ∙ ap (λ (z : ℤ). z -ℤ pos (2 ^ 32)) (widened r h .same) ∙ above n r (basepoint-of n r h (c .before .if1 .taken) ∙ set r h l)
 
 returns-2 : tie.Need-returns-2
 returns-2 c =
     let s = c .before .before in
     let n = s .args .nearest in
     let r = s .args .register in
+    let h = s .fits .register .fits in
     let l : r < 2 ^ 31 = omega (arith, c .if2 .left) in
-    widened r (s .fits .register .fits) .same ∙ here n r (down n r (c .before .if1 .taken) l)
+    widened r h .same ∙ here n r (basepoint-of n r h (c .before .if1 .taken) ∙ clear r l)
 
 returns-3 : tie.Need-returns-3
 returns-3 c =
@@ -78,7 +77,7 @@ returns-3 c =
     let n = s .args .nearest in
     let r = s .args .register in
     let h = s .fits .register .fits in
-    widened r h .same ∙ here n r (cut n r (c .if1 .left) h)
+    widened r h .same ∙ here n r (basepoint-of n r h (c .if1 .left))
 
 pub fraction-spec : {M : Type 1} → statement M
 fraction-spec = tie.close (tie.spec cast-whole sub-result returns returns-2 returns-3)
