@@ -1,12 +1,11 @@
 -- The examples at the heads of the files, and a few more uses, each checked. Nothing cites this file. Assumes nothing.
-use mathlib.Core.Path.{_≡_, refl, _∙_}
-use mathlib.Core.Bool.{Bool}
+use mathlib.Core.Path.{_≡_, refl}
 use mathlib.Core.List.{List, [], _∷_}
 use Prim.Native.Nat.{ℕ, _+_, _*_, _<_}
 use native.Mathlib.Omega.{arith}
 use lib.Dec.{T, eqb, lit<}
 use lib.IntN.{ℤ, pos, negsuc, negℤ, _+ℤ_, _-ℤ_, _*ℤ_}
-use lib.ListN.{length, getD}
+use lib.ListN.{getD}
 use lib.Signed.{_≤ℤ_, _<ℤ_, shrZ}
 use mir.Syntax.{w16, w64}
 use mir.Val.{SFits, toZ, ofZ}
@@ -14,7 +13,7 @@ use Rattle.integers.specs.Difference.{rep, rep-add, rep-mul, rep-eq, ω-
 use Rattle.integers.specs.Ring.{Expr, var, lit, neg, _:+_, _:-_, _:*_, _:=_, identity}
 use Rattle.integers.specs.Order.{ωℤ, nn-sq, nn-sub, nn-add, nn-mul}
 use Rattle.integers.specs.Inequality.{by-nn, goal≤, hyp≤}
-use Rattle.integers.specs.Floor.{floorDiv, roundDiv, IsFloor, floor-eq, floor-bias, round-is}
+use Rattle.integers.specs.Floor.{floorDiv, roundDiv, floor-eq, floor-bias, round-is}
 use Rattle.integers.specs.Within.{Within, w-add, w-mul}
 use Rattle.integers.specs.Range.{_∈_, _to_, ±_, i-mul, w-in}
 use Rattle.integers.specs.Machine.{Known, none, _&_, safe, fits, gives, mach, rd}

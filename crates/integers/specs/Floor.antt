@@ -5,7 +5,7 @@
 -- proves floorDiv z 6 ≡ q from q · 6 ≤ z < (q + 1) · 6, and `floor-bias z k d h` takes a multiple of d out:  ⌊(z + k d) / d⌋ = ⌊z / d⌋ + k.
 use mathlib.Core.Path.{_≡_, refl, _∙_, ap}
 use mathlib.Core.List.{List, [], _∷_}
-use Prim.Native.Nat.{ℕ, _+_, _*_, _/_, _<_, _≤_}
+use Prim.Native.Nat.{ℕ, _+_, _*_, _/_, _<_}
 use native.Mathlib.Omega.{arith}
 use native.Mathlib.Nat.{div-mul-le-self, lt-div-mul-add}
 use lib.IntN.{ℤ, pos, negsuc, _+ℤ_, _-ℤ_, _*ℤ_, +ℤ-negℤ-cancel}

@@ -1,8 +1,8 @@
 -- The word of a ratio, on plain values: what each test of the code says of the definition, and that the whole part of the product by 2^33 counts the half words.
 -- Assumes nothing.
-use mathlib.Core.Logic.{_⊎_, inl, inr}
+use mathlib.Core.Logic.{inl, inr}
 use mathlib.Core.Path.{_≡_, refl, sym, ap, _∙_, subst}
-use mathlib.Core.Bool.{Bool, true, false, _&&_, _||_, true≢false}
+use mathlib.Core.Bool.{Bool, true, false, _&&_, true≢false}
 use Prim.Native.Nat.{ℕ, zero, suc, _+_, _-_, _*_, _/_, _^_, _≤_, _<_, zero-le, min}
 use native.Mathlib.Nat.{suc-ne-zero, le-trans, le-of-eq, le-of-lt, lt-of-not-le, lt-irrefl, zero-lt-suc, lt-of-lt-of-le, lt-of-le-of-lt, mul-comm, mul-one, zero-mul, mul-pos, mul-le-mul-left, mul-le-mul-right, div-lt-iff-lt-mul, mul-div-mul-right}
 use native.Mathlib.Omega.{arith}

@@ -4,7 +4,7 @@ use mathlib.Core.Path.{_≡_, refl}
 use mathlib.Core.Bool.{Bool, true, false}
 use Prim.Native.Nat.{ℕ, _+_, _^_}
 use lib.Ieee.{Float, fin}
-use lib.IntN.{ℤ, pos, negsuc, negℤ}
+use lib.IntN.{ℤ, pos, negℤ}
 use Rattle.oscillator.specs.declared.settings.Setting.the-variants.{Ratio, Rates}
 use Rattle.oscillator.specs.Word.{word, refused, inRange, nearestWord, ratioWord, ratesWord, wordOf}
 use Rattle.oscillator.specs.Position.{basepoint, fraction, fourteenBits}

@@ -1,5 +1,5 @@
 -- `oscillator::settings::word_of` meets its contract: the setting is taken apart, and each arm is a call. Assumes nothing.
-use mathlib.Core.Path.{_≡_, sym, ap, _∙_}
+use mathlib.Core.Path.{sym, ap, _∙_}
 use borrow.Author.Needs.{needs}
 use Rattle.oscillator.specs.Word.{wordOf}
 use Rattle.oscillator.proofs.settings.word_of.Statement.{statement}

@@ -1,10 +1,9 @@
 -- `oscillator::settings::word_of_rates` meets its contract: the product by 2^32 and half of the divisor fit 64 bits. Assumes nothing.
-use mathlib.Core.Path.{_≡_, sym, ap, _∙_}
-use mathlib.Core.Bool.{Bool}
+use mathlib.Core.Path.{_≡_, ap, _∙_}
 use Prim.Native.Nat.{ℕ}
 use borrow.Author.Needs.{needs}
 use borrow.Author.Tests.{eq-eqb, ne-eqb}
-use Rattle.oscillator.specs.Word.{Outcome, refuseIf, inRange, nearestWord, ratesWord}
+use Rattle.oscillator.specs.Word.{inRange, nearestWord, ratesWord}
 use Rattle.oscillator.proofs.Rounding.{by-half}
 use Rattle.oscillator.proofs.settings.word_of_rates.Statement.{statement}
 use Rattle.oscillator.proofs.settings.word_of_rates.Tie as tie
