@@ -16,7 +16,7 @@ use Rattle.integers.specs.Inequality.{by-nn, goal≤, hyp≤}
 use Rattle.integers.specs.Floor.{floorDiv, roundDiv, floor-eq, floor-bias, round-is}
 use Rattle.integers.specs.Within.{Within, w-add, w-mul}
 use Rattle.integers.specs.Range.{_∈_, _to_, ±_, i-mul, w-in}
-use Rattle.integers.specs.Machine.{Known, none, _&_, safe, fits, gives, mach, rd}
+use Rattle.integers.specs.Machine.{Known, none, _&_, safe, fits, gives, computed, stored}
 use Rattle.integers.specs.Operations.{Reads, reads, r-shr, r-cast}
 use Rattle.integers.specs.Table.{every-at}
 use Rattle.integers.specs.Sample.{signed, bits}
@@ -110,15 +110,15 @@ module _ (a b m : ℤ) (p : Within 32768 a) (q : Within 32768 b) (r : Within 163
   known = w-in p & w-in q & w-in r & none
 
   -- b * m
-  step : SFits w64 (rd b *ℤ rd m)
+  step : SFits w64 (stored b *ℤ stored m)
   step = fits known (var 1 :* var 2) tt
 
   -- a * (16384 - m) + b * m
-  line : mach ρ (var 0 :* (s :- var 2) :+ var 1 :* var 2) ≡ pos 16384 *ℤ a +ℤ (b -ℤ a) *ℤ m
+  line : computed ρ (var 0 :* (s :- var 2) :+ var 1 :* var 2) ≡ pos 16384 *ℤ a +ℤ (b -ℤ a) *ℤ m
   line = gives known (var 0 :* (s :- var 2) :+ var 1 :* var 2) (s :* var 0 :+ (var 1 :- var 0) :* var 2) tt tt
 
   -- Operations: ((a + m) >> 2) as i16
-  narrowed : Reads (toZ w16 (ofZ w16 (shrZ (rd (rd a +ℤ rd m)) 4))) (floorDiv (a +ℤ m) 4) (negsuc 12287 to pos 12288)
+  narrowed : Reads (toZ w16 (ofZ w16 (shrZ (stored (stored a +ℤ stored m)) 4))) (floorDiv (a +ℤ m) 4) (negsuc 12287 to pos 12288)
   narrowed = r-cast w16 (r-shr 4 (lit< tt) (reads known (var 0 :+ var 2) tt)) tt
 
 -- the largest range whose square fits 64 bits

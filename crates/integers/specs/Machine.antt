@@ -19,22 +19,23 @@ use mir.Val.{SFits, hbits, toZ, ofZ}
 use mir.Facts.{toZ-ofZ, and-yes}
 use Rattle.integers.specs.Ring.{Expr, var, loc, cast, lit, neg, _:+_, _:-_, _:*_, _:=_, Check, at, eval, ring}
 use Rattle.integers.specs.Order.{ωℤ, ≤ω}
-use Rattle.integers.specs.Range.{In, Iv, _∈_, _to_, addI, subI, negI, mulI, i-lit, i-add, i-sub, i-neg, i-mul}
+use Rattle.integers.specs.Range.{In, Interval, _∈_, _to_, addI, subI, negI, mulI, i-lit, i-add, i-sub, i-neg, i-mul}
 
 -- ---- what the machine has: each operation reads its operands from bits
-abbrev pub rd : ℤ → ℤ
-rd z = toZ w64 (ofZ w64 z)
+-- z written as 64 bits, and read back
+abbrev pub stored : ℤ → ℤ
+stored z = toZ w64 (ofZ w64 z)
 
 -- what the machine reads for e
-abbrev pub mach : List ℤ → Expr → ℤ
-mach ρ (var i) = rd (at ρ i)
-mach ρ (loc i) = at ρ i
-mach ρ (cast w i) = rd (toZ w (ofZ w (at ρ i)))
-mach ρ (lit k) = k
-mach ρ (e :+ f) = rd (mach ρ e +ℤ mach ρ f)
-mach ρ (e :- f) = rd (mach ρ e -ℤ mach ρ f)
-mach ρ (e :* f) = rd (mach ρ e *ℤ mach ρ f)
-mach ρ (neg e) = rd (negℤ (mach ρ e))
+abbrev pub computed : List ℤ → Expr → ℤ
+computed ρ (var i) = stored (at ρ i)
+computed ρ (loc i) = at ρ i
+computed ρ (cast w i) = stored (toZ w (ofZ w (at ρ i)))
+computed ρ (lit k) = k
+computed ρ (e :+ f) = stored (computed ρ e +ℤ computed ρ f)
+computed ρ (e :- f) = stored (computed ρ e -ℤ computed ρ f)
+computed ρ (e :* f) = stored (computed ρ e *ℤ computed ρ f)
+computed ρ (neg e) = stored (negℤ (computed ρ e))
 
 -- what the last operation of e makes, before it is written as bits
 abbrev pub raw : List ℤ → Expr → ℤ
@@ -42,16 +43,16 @@ raw ρ (var i) = at ρ i
 raw ρ (loc i) = at ρ i
 raw ρ (cast w i) = toZ w (ofZ w (at ρ i))
 raw ρ (lit k) = k
-raw ρ (e :+ f) = mach ρ e +ℤ mach ρ f
-raw ρ (e :- f) = mach ρ e -ℤ mach ρ f
-raw ρ (e :* f) = mach ρ e *ℤ mach ρ f
-raw ρ (neg e) = negℤ (mach ρ e)
+raw ρ (e :+ f) = computed ρ e +ℤ computed ρ f
+raw ρ (e :- f) = computed ρ e -ℤ computed ρ f
+raw ρ (e :* f) = computed ρ e *ℤ computed ρ f
+raw ρ (neg e) = negℤ (computed ρ e)
 
 -- ---- the range of e, and the test that each of its steps fits
-abbrev pub atI : List Iv → ℕ → Iv
+abbrev pub atI : List Interval → ℕ → Interval
 atI β i = getD β i (pos 0 to pos 0)
 
-abbrev pub range : List Iv → Expr → Iv
+abbrev pub range : List Interval → Expr → Interval
 range β (var i) = atI β i
 range β (loc i) = atI β i
 range β (cast w i) = atI β i
@@ -61,21 +62,21 @@ range β (e :- f) = subI (range β e) (range β f)
 range β (e :* f) = mulI (range β e) (range β f)
 range β (neg e) = negI (range β e)
 
--- a signed width holds every number of the range
-abbrev pub holds : Width → Iv → Bool
-holds w r = ltZ (negsuc (2 ^ hbits w)) (r .lo) && ltZ (r .hi) (pos (2 ^ hbits w))
+-- a signed width has room for every number of the range
+abbrev pub roomFor : Width → Interval → Bool
+roomFor w r = ltZ (negsuc (2 ^ hbits w)) (r .lo) && ltZ (r .hi) (pos (2 ^ hbits w))
 
-abbrev pub safe : List Iv → Expr → Bool
-safe β (var i) = holds w64 (atI β i)
-safe β (loc i) = holds w64 (atI β i)
-safe β (cast w i) = holds w64 (atI β i) && holds w (atI β i)
-safe β (lit k) = holds w64 (k to k)
-safe β (e :+ f) = holds w64 (range β (e :+ f)) && (safe β e && safe β f)
-safe β (e :- f) = holds w64 (range β (e :- f)) && (safe β e && safe β f)
-safe β (e :* f) = holds w64 (range β (e :* f)) && (safe β e && safe β f)
-safe β (neg e) = holds w64 (range β (neg e)) && safe β e
+abbrev pub safe : List Interval → Expr → Bool
+safe β (var i) = roomFor w64 (atI β i)
+safe β (loc i) = roomFor w64 (atI β i)
+safe β (cast w i) = roomFor w64 (atI β i) && roomFor w (atI β i)
+safe β (lit k) = roomFor w64 (k to k)
+safe β (e :+ f) = roomFor w64 (range β (e :+ f)) && (safe β e && safe β f)
+safe β (e :- f) = roomFor w64 (range β (e :- f)) && (safe β e && safe β f)
+safe β (e :* f) = roomFor w64 (range β (e :* f)) && (safe β e && safe β f)
+safe β (neg e) = roomFor w64 (range β (neg e)) && safe β e
 
-pub i-fits : {w : Width} {r : Iv} {z : ℤ} → z ∈ r → T (holds w r) → SFits w z
+pub i-fits : {w : Width} {r : Interval} {z : ℤ} → z ∈ r → T (roomFor w r) → SFits w z
 i-fits {w} {r} {z} h t =
     let b = and-yes (ltZ (negsuc (2 ^ hbits w)) (r .lo)) (ltZ (r .hi) (pos (2 ^ hbits w))) t in
     go z h (ltZ-yes (b .0)) (ltZ-yes (b .1))
@@ -91,31 +92,31 @@ whole w {z = negsuc n} f = record { low = ≤ω (negsuc (2 ^ hbits w - 1)) (negs
 
 -- ---- each number of the environment is in its range. A data type, so that `fits` and `gives` find the environment and the ranges by themselves
 infixr 40 _&_
-pub data Known : List ℤ → List Iv → Type 0 where
+pub data Known : List ℤ → List Interval → Type 0 where
   none : Known [] []
-  _&_ : {a b x : ℤ} {ρ : List ℤ} {β : List Iv} → In a b x → Known ρ β → Known (x ∷ ρ) ((a to b) ∷ β)
+  _&_ : {a b x : ℤ} {ρ : List ℤ} {β : List Interval} → In a b x → Known ρ β → Known (x ∷ ρ) ((a to b) ∷ β)
 
-at-in : {ρ : List ℤ} {β : List Iv} → Known ρ β → (i : ℕ) → at ρ i ∈ atI β i
+at-in : {ρ : List ℤ} {β : List Interval} → Known ρ β → (i : ℕ) → at ρ i ∈ atI β i
 at-in none i = i-lit (pos 0)
 at-in (p & h) zero = p
 at-in (p & h) (suc i) = at-in h i
 
 -- e fits whole where its steps do
-top : (β : List Iv) (e : Expr) → T (safe β e) → T (holds w64 (range β e))
+top : (β : List Interval) (e : Expr) → T (safe β e) → T (roomFor w64 (range β e))
 top β (var i) t = t
 top β (loc i) t = t
-top β (cast w i) t = and-yes (holds w64 (atI β i)) (holds w (atI β i)) t .0
+top β (cast w i) t = and-yes (roomFor w64 (atI β i)) (roomFor w (atI β i)) t .0
 top β (lit k) t = t
-top β (e :+ f) t = and-yes (holds w64 (range β (e :+ f))) (safe β e && safe β f) t .0
-top β (e :- f) t = and-yes (holds w64 (range β (e :- f))) (safe β e && safe β f) t .0
-top β (e :* f) t = and-yes (holds w64 (range β (e :* f))) (safe β e && safe β f) t .0
-top β (neg e) t = and-yes (holds w64 (range β (neg e))) (safe β e) t .0
+top β (e :+ f) t = and-yes (roomFor w64 (range β (e :+ f))) (safe β e && safe β f) t .0
+top β (e :- f) t = and-yes (roomFor w64 (range β (e :- f))) (safe β e && safe β f) t .0
+top β (e :* f) t = and-yes (roomFor w64 (range β (e :* f))) (safe β e && safe β f) t .0
+top β (neg e) t = and-yes (roomFor w64 (range β (neg e))) (safe β e) t .0
 
 -- the operands of a safe step are safe
-two : (b : Bool) (β : List Iv) (e f : Expr) → T (b && (safe β e && safe β f)) → T (safe β e) × T (safe β f)
+two : (b : Bool) (β : List Interval) (e f : Expr) → T (b && (safe β e && safe β f)) → T (safe β e) × T (safe β f)
 two b β e f t = and-yes (safe β e) (safe β f) (and-yes b (safe β e && safe β f) t .1)
 
-module _ {ρ : List ℤ} {β : List Iv} (h : Known ρ β) where
+module _ {ρ : List ℤ} {β : List Interval} (h : Known ρ β) where
   -- the value of e is in its range
   pub inside : (e : Expr) → eval ρ e ∈ range β e
   inside (var i) = at-in h i
@@ -128,10 +129,10 @@ module _ {ρ : List ℤ} {β : List Iv} (h : Known ρ β) where
   inside (neg e) = i-neg (inside e)
 
   -- what is read of e is e, where what its last operation makes is
-  read : (e : Expr) → T (safe β e) → raw ρ e ≡ eval ρ e → rd (raw ρ e) ≡ eval ρ e
+  read : (e : Expr) → T (safe β e) → raw ρ e ≡ eval ρ e → stored (raw ρ e) ≡ eval ρ e
   read e t p = toZ-ofZ (subst (SFits w64) (sym p) (i-fits (inside e) (top β e t))) ∙ p
 
-  seen : (e : Expr) → T (safe β e) → raw ρ e ≡ eval ρ e → mach ρ e ≡ eval ρ e
+  seen : (e : Expr) → T (safe β e) → raw ρ e ≡ eval ρ e → computed ρ e ≡ eval ρ e
   seen (var i) t p = read (var i) t p
   seen (loc i) t p = refl
   seen (cast w i) t p = read (cast w i) t p
@@ -144,21 +145,21 @@ module _ {ρ : List ℤ} {β : List Iv} (h : Known ρ β) where
   raw-is : (e : Expr) → T (safe β e) → raw ρ e ≡ eval ρ e
   raw-is (var i) t = refl
   raw-is (loc i) t = refl
-  raw-is (cast w i) t = toZ-ofZ (i-fits (at-in h i) (and-yes (holds w64 (atI β i)) (holds w (atI β i)) t .1))
+  raw-is (cast w i) t = toZ-ofZ (i-fits (at-in h i) (and-yes (roomFor w64 (atI β i)) (roomFor w (atI β i)) t .1))
   raw-is (lit k) t = refl
-  raw-is (e :+ f) t = let s = two (holds w64 (range β (e :+ f))) β e f t in ap₂ _+ℤ_ (seen e (s .0) (raw-is e (s .0))) (seen f (s .1) (raw-is f (s .1)))
-  raw-is (e :- f) t = let s = two (holds w64 (range β (e :- f))) β e f t in ap₂ _-ℤ_ (seen e (s .0) (raw-is e (s .0))) (seen f (s .1) (raw-is f (s .1)))
-  raw-is (e :* f) t = let s = two (holds w64 (range β (e :* f))) β e f t in ap₂ _*ℤ_ (seen e (s .0) (raw-is e (s .0))) (seen f (s .1) (raw-is f (s .1)))
-  raw-is (neg e) t = let s = and-yes (holds w64 (range β (neg e))) (safe β e) t .1 in ap negℤ (seen e s (raw-is e s))
+  raw-is (e :+ f) t = let s = two (roomFor w64 (range β (e :+ f))) β e f t in ap₂ _+ℤ_ (seen e (s .0) (raw-is e (s .0))) (seen f (s .1) (raw-is f (s .1)))
+  raw-is (e :- f) t = let s = two (roomFor w64 (range β (e :- f))) β e f t in ap₂ _-ℤ_ (seen e (s .0) (raw-is e (s .0))) (seen f (s .1) (raw-is f (s .1)))
+  raw-is (e :* f) t = let s = two (roomFor w64 (range β (e :* f))) β e f t in ap₂ _*ℤ_ (seen e (s .0) (raw-is e (s .0))) (seen f (s .1) (raw-is f (s .1)))
+  raw-is (neg e) t = let s = and-yes (roomFor w64 (range β (neg e))) (safe β e) t .1 in ap negℤ (seen e s (raw-is e s))
 
   -- what is read is e
-  pub is : (e : Expr) → T (safe β e) → mach ρ e ≡ eval ρ e
-  is e t = seen e t (raw-is e t)
+  pub computes : (e : Expr) → T (safe β e) → computed ρ e ≡ eval ρ e
+  computes e t = seen e t (raw-is e t)
 
   -- the last operation of e fits
   pub fits : (e : Expr) → T (safe β e) → SFits w64 (raw ρ e)
   fits e t = subst (SFits w64) (sym (raw-is e t)) (i-fits (inside e) (top β e t))
 
 -- the code computes e, and what is promised is f
-pub gives : {ρ : List ℤ} {β : List Iv} → Known ρ β → (e f : Expr) → T (safe β e) → Check (e := f) → mach ρ e ≡ eval ρ f
-gives {ρ} h e f s t = is h e s ∙ ring ρ e f t
+pub gives : {ρ : List ℤ} {β : List Interval} → Known ρ β → (e f : Expr) → T (safe β e) → Check (e := f) → computed ρ e ≡ eval ρ f
+gives {ρ} h e f s t = computes h e s ∙ ring ρ e f t

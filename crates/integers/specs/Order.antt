@@ -4,12 +4,13 @@
 --     omega (ωℤ, ω-mul (pos 3) x, ω-add (pos 3 *ℤ x) (pos 3))
 -- proves y ≤ℤ pos 20 from (pos 3 *ℤ x) ≤ℤ y, y <ℤ (pos 3 *ℤ x +ℤ pos 3) and x <ℤ pos 7. Where there are many sums, Inequality writes them as expressions.
 use mathlib.Core.Path.{_≡_, sym, _∙_, ap}
+use mathlib.Core.Bool.{Bool, true, false, not}
 use Prim.Native.Nat.{ℕ, _+_, _*_, suc, _<_, _≤_}
 use native.Mathlib.Omega.{arith}
 use native.Mathlib.Nat.{lt-of-mul-lt-mul-right}
-use lib.Dec.{leb→le, le→leb, ltb→lt, lt→ltb}
+use lib.Dec.{T, leb→le, le→leb, ltb→lt, lt→ltb}
 use lib.IntN.{ℤ, pos, negsuc, _+ℤ_, _-ℤ_, _*ℤ_}
-use lib.Signed.{_≤ℤ_, _<ℤ_}
+use lib.Signed.{_≤ℤ_, _<ℤ_, ltZ, ltZ-yes, ltZ-no}
 use Rattle.integers.specs.Difference.{up, dn, Rep, rep, rep-sub, rep-mul, dif-eq, ω-add, ω-minus}
 
 -- ---- the rules: a hypothesis of ℤ read, a goal of ℤ turned
@@ -64,6 +65,17 @@ pub ≤ℤ-<ℤ-trans : {x y z : ℤ} → x ≤ℤ y → y <ℤ z → x <ℤ z
 
 pub ≤ℤ-antisym : {x y : ℤ} → x ≤ℤ y → y ≤ℤ x → x ≡ y
 ≤ℤ-antisym {x} {y} h k = omega ωℤ
+
+pub <ℤ-weak : {x y : ℤ} → x <ℤ y → x ≤ℤ y
+<ℤ-weak {x} {y} h = omega ωℤ
+
+-- one or the other holds
+pub lt-or-le : (x y : ℤ) {P : Type 0} → (x <ℤ y → P) → (y ≤ℤ x → P) → P
+lt-or-le x y {P} f g = go (ltZ x y) (λ t. f (ltZ-yes t)) (λ t. g (ltZ-no t))
+  where
+    go : (b : Bool) → (T b → P) → (T (not b) → P) → P
+    go true f g = f tt
+    go false f g = g tt
 
 pub <ℤ-suc : {x y : ℤ} → x <ℤ (y +ℤ pos 1) → x ≤ℤ y
 <ℤ-suc {x} {y} h = omega (ωℤ, ω-add y (pos 1))

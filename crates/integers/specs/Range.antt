@@ -21,21 +21,21 @@ pub record In (lo hi z : ℤ) : Type 0 where
   pub high : z ≤ℤ hi
 
 -- a range
-pub record Iv : Type 0 where
+pub record Interval : Type 0 where
   pub lo : ℤ
   pub hi : ℤ
 
 infix 50 _∈_
 infix 90 _to_ ±_
 -- z is in the range r
-abbrev pub _∈_ : ℤ → Iv → Type 0
+abbrev pub _∈_ : ℤ → Interval → Type 0
 _∈_ z r = In (r .lo) (r .hi) z
 
-abbrev pub _to_ : ℤ → ℤ → Iv
+abbrev pub _to_ : ℤ → ℤ → Interval
 a to b = record { lo = a; hi = b }
 
 -- from −B to B
-abbrev pub ±_ : ℕ → Iv
+abbrev pub ±_ : ℕ → Interval
 ± B = negℤ (pos B) to pos B
 
 pub w-in : {B : ℕ} {z : ℤ} → Within B z → In (negℤ (pos B)) (pos B) z
@@ -99,16 +99,16 @@ col-high : {c d y m : ℤ} (x : ℤ) → In c d y → (x *ℤ c) ≤ℤ m → (x
 col-high {c} {d} {y} {m} x h p q = rw (*ℤ-comm x y) (row-high x h (rw (*ℤ-comm c x) p) (rw (*ℤ-comm d x) q))
 
 -- ---- the operations on ranges
-abbrev pub addI : Iv → Iv → Iv
+abbrev pub addI : Interval → Interval → Interval
 addI r s = record { lo = r .lo +ℤ s .lo; hi = r .hi +ℤ s .hi }
 
-abbrev pub subI : Iv → Iv → Iv
+abbrev pub subI : Interval → Interval → Interval
 subI r s = record { lo = r .lo -ℤ s .hi; hi = r .hi -ℤ s .lo }
 
-abbrev pub negI : Iv → Iv
+abbrev pub negI : Interval → Interval
 negI r = record { lo = negℤ (r .hi); hi = negℤ (r .lo) }
 
-abbrev pub mulI : Iv → Iv → Iv
+abbrev pub mulI : Interval → Interval → Interval
 mulI r s =
     record {
       lo = minZ (minZ (r .lo *ℤ s .lo) (r .lo *ℤ s .hi)) (minZ (r .hi *ℤ s .lo) (r .hi *ℤ s .hi));
@@ -118,20 +118,20 @@ mulI r s =
 pub i-lit : (z : ℤ) → z ∈ (z to z)
 i-lit z = record { low = ≤ℤ-refl z; high = ≤ℤ-refl z }
 
-pub i-add : {r s : Iv} {x y : ℤ} → x ∈ r → y ∈ s → (x +ℤ y) ∈ addI r s
+pub i-add : {r s : Interval} {x y : ℤ} → x ∈ r → y ∈ s → (x +ℤ y) ∈ addI r s
 i-add {r} {s} {x} {y} h k =
     let e = ω-add x y in
     record { low = omega (ωℤ, h .low, k .low, ω-add (r .lo) (s .lo)); high = omega (ωℤ, h .high, k .high, ω-add (r .hi) (s .hi)) }
 
-pub i-neg : {r : Iv} {x : ℤ} → x ∈ r → negℤ x ∈ negI r
+pub i-neg : {r : Interval} {x : ℤ} → x ∈ r → negℤ x ∈ negI r
 i-neg {r} {x} h = record { low = omega (ωℤ, h .high, ω-neg x, ω-neg (r .hi)); high = omega (ωℤ, h .low, ω-neg x, ω-neg (r .lo)) }
 
-pub i-sub : {r s : Iv} {x y : ℤ} → x ∈ r → y ∈ s → (x -ℤ y) ∈ subI r s
+pub i-sub : {r s : Interval} {x y : ℤ} → x ∈ r → y ∈ s → (x -ℤ y) ∈ subI r s
 i-sub {r} {s} {x} {y} h k =
     let e = ω-minus x y in
     record { low = omega (ωℤ, h .low, k .high, ω-minus (r .lo) (s .hi)); high = omega (ωℤ, h .high, k .low, ω-minus (r .hi) (s .lo)) }
 
-pub i-mul : {r s : Iv} {x y : ℤ} → x ∈ r → y ∈ s → (x *ℤ y) ∈ mulI r s
+pub i-mul : {r s : Interval} {x y : ℤ} → x ∈ r → y ∈ s → (x *ℤ y) ∈ mulI r s
 i-mul {r} {s} {x} {y} h k =
     let ll : ℤ = r .lo *ℤ s .lo in
     let lh : ℤ = r .lo *ℤ s .hi in

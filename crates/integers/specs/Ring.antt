@@ -235,9 +235,9 @@ abbrev pub All : ℕ → List ℤ → Eqn → Type 0
 All zero ρ q = Holds ρ q
 All (suc n) ρ q = (x : ℤ) → All n (ρ ++ (x ∷ [])) q
 
-holds : (n : ℕ) (ρ : List ℤ) (q : Eqn) → Check q → All n ρ q
-holds zero ρ (e := f) t = ring ρ e f t
-holds (suc n) ρ q t = λ x. holds n (ρ ++ (x ∷ [])) q t
+for-all : (n : ℕ) (ρ : List ℤ) (q : Eqn) → Check q → All n ρ q
+for-all zero ρ (e := f) t = ring ρ e f t
+for-all (suc n) ρ q t = λ x. for-all n (ρ ++ (x ∷ [])) q t
 
 pub identity : (n : ℕ) (q : Over n) → Check (with n 0 q) → All n [] (with n 0 q)
-identity n q t = holds n [] (with n 0 q) t
+identity n q t = for-all n [] (with n 0 q) t

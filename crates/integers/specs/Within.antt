@@ -2,11 +2,10 @@
 --
 --     w-add (w-mul a b) c : Within (A * B + C) (x *ℤ y +ℤ z)      from  a : Within A x,  b : Within B y,  c : Within C z
 -- Range has the finer bounds lo ≤ z ≤ hi, and `w-in` and `in-w` lead from one to the other.
-use mathlib.Core.Path.{_≡_, refl}
+use mathlib.Core.Path.{_≡_, refl, ap}
 use Prim.Native.Nat.{ℕ, zero, suc, _+_, _*_, _≤_}
 use native.Mathlib.Omega.{arith}
 use native.Mathlib.Nat.{le-refl, le-trans, le-of-eq, mul-le-mul}
-use lib.Dec.{T, leb, leb→le}
 use lib.IntN.{ℤ, pos, negsuc, negℤ, natAbs, _+ℤ_, _-ℤ_, _*ℤ_}
 use lib.Signed.{_≤ℤ_}
 use Rattle.integers.specs.Difference.{up, dn, up-neg, dn-neg, Rep, rep, rep-add}
@@ -35,6 +34,10 @@ abs-mul (pos a) (negsuc b) = abs-neg (pos (a * suc b))
 abs-mul (negsuc a) (pos b) = abs-neg (pos (suc a * b))
 abs-mul (negsuc a) (negsuc b) = refl
 
+pub abs-zero : (z : ℤ) → natAbs z ≡ 0 → z ≡ pos 0
+abs-zero (pos n) e = ap pos e
+abs-zero (negsuc n) e = absurd (omega arith)
+
 -- ---- bounds
 pub w-lit : (z : ℤ) → Within (natAbs z) z
 w-lit z = record { abs = le-refl (natAbs z) }
@@ -51,8 +54,8 @@ w-sub h k = w-add h (w-neg k)
 pub w-mul : {A B : ℕ} {x y : ℤ} → Within A x → Within B y → Within (A * B) (x *ℤ y)
 w-mul {x} {y} h k = record { abs = le-trans (le-of-eq (abs-mul x y)) (mul-le-mul (h .abs) (k .abs)) }
 
-pub w-weaken : {A : ℕ} (B : ℕ) {z : ℤ} → T (leb A B) → Within A z → Within B z
-w-weaken {A} B t h = record { abs = le-trans (h .abs) (leb→le A B t) }
+pub w-weaken : {A B : ℕ} {z : ℤ} → A ≤ B → Within A z → Within B z
+w-weaken l h = record { abs = le-trans (h .abs) l }
 
 -- ---- as an order: −B ≤ z ≤ B
 pub w-low : {B : ℕ} {z : ℤ} → Within B z → negℤ (pos B) ≤ℤ z

@@ -1,18 +1,31 @@
 -- What ties the register to exact positions: the register stays Q modulo 2^32, the advance is that of the basepoint and at most 4, and the register's fraction is the
 -- position's. The layers above cite these laws and open none of the definitions. Assumes nothing.
-use mathlib.Core.Path.{_≡_, refl, ap, _∙_}
+use mathlib.Core.Path.{_≡_, refl, sym, ap, _∙_, subst}
 use mathlib.Core.Bool.{Bool, true, false, cond}
-use mathlib.Core.List.{List, [], _∷_}
+use mathlib.Core.List.{List, [], _∷_, _++_, foldr}
 use Prim.Native.Nat.{ℕ, _+_, _-_, _*_, _/_, _%_, _^_, _≤_, _<_}
 use native.Mathlib.Omega.{arith}
 use borrow.Author.Tests.{ltb-true, ltb-false}
 use lib.Dec.{ltb, lit<}
-use lib.IntN.{pos, negsuc}
-use Rattle.integers.specs.Difference.{ω-minus}
-use Rattle.integers.specs.Order.{ωℤ}
-use Rattle.integers.specs.Range.{Iv, _∈_, _to_, i-floor}
+use lib.IntN.{ℤ, pos, negsuc, negℤ, _+ℤ_, _-ℤ_}
+use lib.Signed.{_≤ℤ_, _<ℤ_}
+use Rattle.integers.specs.Difference.{ω-add, ω-neg, ω-minus}
+use Rattle.integers.specs.Order.{ωℤ, <ℤ-suc}
+use Rattle.integers.specs.Floor.{IsFloor, floor-is}
+use Rattle.integers.specs.Range.{In, i-floor}
 use Rattle.oscillator.specs.Position.{position, half, basepoint, fraction, fourteenBits}
-use Rattle.oscillator.specs.Register.{registerOf, stepped, carryOf, topBitOf, advanceOf}
+use Rattle.oscillator.specs.Register.{registerOf, stepped, steps, carryOf, topBitOf, advanceOf}
+
+-- ---- positions: "start + sum of the words before", and in two parts
+pub position-sum : (p : ℕ) (ws : List ℕ) → position p ws ≡ p + foldr _+_ 0 ws
+unfolding position
+position-sum p [] = omega arith
+position-sum p (w ∷ ws) = omega (arith, position-sum (p + w) ws)
+
+pub position-append : (p : ℕ) (us ws : List ℕ) → position p (us ++ ws) ≡ position (position p us) ws
+unfolding position
+position-append p [] ws = refl
+position-append p (u ∷ us) ws = position-append (p + u) us ws
 
 -- ---- the register holds Q modulo 2^32
 pub register-below : (q : ℕ) → registerOf q < 2 ^ 32
@@ -24,28 +37,28 @@ pub register-phase : (p : ℕ) → p < 2 ^ 32 → registerOf p ≡ p
 unfolding registerOf
 register-phase p h = omega arith
 
+pub stepped-below : (r w : ℕ) → stepped r w < 2 ^ 32
+unfolding stepped
+stepped-below r w = register-below (r + w)
+
 pub register-step : (q w : ℕ) → stepped (registerOf q) w ≡ registerOf (q + w)
 unfolding registerOf stepped
 register-step q w = omega arith
 
--- over any words: the register that starts at the phase and steps by each
-unfoldable pub steps : ℕ → List ℕ → ℕ
-steps register [] = register
-steps register (w ∷ ws) = steps (stepped register w) ws
-
+-- over any words
 pub register-holds : (p : ℕ) (ws : List ℕ) → steps (registerOf p) ws ≡ registerOf (position p ws)
 unfolding steps position
 register-holds p [] = refl
 register-holds p (w ∷ ws) = ap (λ (r : ℕ). steps r ws) (register-step p w) ∙ register-holds (p + w) ws
 
 -- ---- the carry is the whole part of the sum, and with the new top bit never less than the old one
-carry-is : (q w : ℕ) → carryOf (registerOf q) (registerOf (q + w)) ≡ (q % 2 ^ 32 + w % 2 ^ 32) / 2 ^ 32
-unfolding carryOf registerOf
-carry-is q w = go (ltb ((q + w) % 2 ^ 32) (q % 2 ^ 32)) refl
+carry-is : (q w : ℕ) → carryOf (registerOf q) (stepped (registerOf q) w) ≡ (q % 2 ^ 32 + w % 2 ^ 32) / 2 ^ 32
+unfolding carryOf registerOf stepped
+carry-is q w = go (ltb ((q % 2 ^ 32 + w) % 2 ^ 32) (q % 2 ^ 32)) refl
   where
-    go : (b : Bool) → ltb ((q + w) % 2 ^ 32) (q % 2 ^ 32) ≡ b → cond b 1 0 ≡ (q % 2 ^ 32 + w % 2 ^ 32) / 2 ^ 32
-    go true e = omega (arith, ltb-true ((q + w) % 2 ^ 32) (q % 2 ^ 32) e)
-    go false e = omega (arith, ltb-false ((q + w) % 2 ^ 32) (q % 2 ^ 32) e)
+    go : (b : Bool) → ltb ((q % 2 ^ 32 + w) % 2 ^ 32) (q % 2 ^ 32) ≡ b → cond b 1 0 ≡ (q % 2 ^ 32 + w % 2 ^ 32) / 2 ^ 32
+    go true e = omega (arith, ltb-true ((q % 2 ^ 32 + w) % 2 ^ 32) (q % 2 ^ 32) e)
+    go false e = omega (arith, ltb-false ((q % 2 ^ 32 + w) % 2 ^ 32) (q % 2 ^ 32) e)
 
 pub carry-le : (old new : ℕ) → carryOf old new ≤ 1
 unfolding carryOf
@@ -63,7 +76,7 @@ top-le old new h = go (ltb new old) refl
     go true e = omega arith
     go false e = omega (arith, ltb-false new old e)
 
--- ---- basepoints: of a register, which is at most 1, and in the order of positions
+-- ---- basepoints: of a register, in the order of positions, and from how far on a sample is reached
 pub basepoint-of : (nearest : Bool) {b : Bool} (r : ℕ) → r < 2 ^ 32 → nearest ≡ b → basepoint nearest r ≡ cond b (topBitOf r) 0
 unfolding basepoint topBitOf
 basepoint-of nearest r h e = by-case nearest ∙ ap (λ (n : Bool). cond n (topBitOf r) 0) e
@@ -81,57 +94,70 @@ pub basepoint-mono : (nearest : Bool) {p q : ℕ} → p ≤ q → basepoint near
 unfolding basepoint
 basepoint-mono nearest {p} {q} h = omega arith
 
+pub basepoint-far : (nearest : Bool) (e q : ℕ) → e * 2 ^ 32 ≤ q → e ≤ basepoint nearest q
+unfolding basepoint
+basepoint-far nearest e q h = omega arith
+
+pub basepoint-le : (nearest : Bool) (q w : ℕ) → w ≤ 2 ^ 34 → basepoint nearest (q + w) ≤ basepoint nearest q + 4
+unfolding basepoint
+basepoint-le nearest q w h = omega arith
+
+-- ---- the register's advance is the basepoint's, for every position and every word
 -- kernel 1: the nearest sample is one on where the top bit is set
 top-is : (q : ℕ) → basepoint true q ≡ q / 2 ^ 32 + topBitOf (registerOf q)
 unfolding basepoint topBitOf registerOf
 top-is q = omega arith
 
--- ---- the register's advance is the basepoint's, for every position and every word
-whole : (q w : ℕ) → (q + w) / 2 ^ 32 ≡ q / 2 ^ 32 + (w / 2 ^ 32 + carryOf (registerOf q) (registerOf (q + w)))
+whole : (q w : ℕ) → (q + w) / 2 ^ 32 ≡ q / 2 ^ 32 + (w / 2 ^ 32 + carryOf (registerOf q) (stepped (registerOf q) w))
 whole q w = omega (arith, carry-is q w)
 
-pub advance-is : (nearest : Bool) (q w : ℕ) → basepoint nearest q + advanceOf nearest (registerOf q) (registerOf (q + w)) w ≡ basepoint nearest (q + w)
+pub advance-is : (nearest : Bool) (q w : ℕ) → basepoint nearest q + advanceOf nearest (registerOf q) (stepped (registerOf q) w) w ≡ basepoint nearest (q + w)
 unfolding advanceOf
 advance-is false q w = unfold basepoint in omega (arith, whole q w)
 advance-is true q w =
-    omega (arith, top-is q, top-is (q + w), whole q w, top-le (registerOf q) (registerOf (q + w)) (register-below q))
+    let after : topBitOf (stepped (registerOf q) w) ≡ topBitOf (registerOf (q + w)) = ap topBitOf (register-step q w) in
+    omega (arith, top-is q, top-is (q + w), whole q w, top-le (registerOf q) (stepped (registerOf q) w) (register-below q))
 
--- "at most 4"
-pub basepoint-le : (nearest : Bool) (q w : ℕ) → w ≤ 2 ^ 34 → basepoint nearest (q + w) ≤ basepoint nearest q + 4
-unfolding basepoint
-basepoint-le nearest q w h = omega arith
+-- of any register, which is a position itself: at most 4
+pub advance-le : (nearest : Bool) (r w : ℕ) → r < 2 ^ 32 → w ≤ 2 ^ 34 → advanceOf nearest r (stepped r w) w ≤ 4
+advance-le nearest r w h l =
+    subst (λ (s : ℕ). advanceOf nearest s (stepped s w) w ≤ 4) (register-phase r h) (omega (arith, advance-is nearest r w, basepoint-le nearest r w l))
 
-pub advance-le : (nearest : Bool) (q w : ℕ) → w ≤ 2 ^ 34 → advanceOf nearest (registerOf q) (registerOf (q + w)) w ≤ 4
-advance-le nearest q w h = omega (arith, advance-is nearest q w, basepoint-le nearest q w h)
+-- ---- fractions: b times 2^32 and f are Q; how far f goes; and f of a register is that of every position that the register stands for
+module _ (nearest : Bool) (q : ℕ) where
+  pub fraction-is : pos (basepoint nearest q * 2 ^ 32) +ℤ fraction nearest q ≡ pos q
+  unfolding fraction
+  fraction-is = let b : ℤ = pos (basepoint nearest q * 2 ^ 32) in omega (ωℤ, ω-minus (pos q) b, ω-add b (pos q -ℤ b))
 
--- ---- the fraction of a register is that of every position that it stands for
--- a whole number of samples moves the basepoint alone
-pub fraction-register : (nearest : Bool) (q : ℕ) → fraction nearest (registerOf q) ≡ fraction nearest q
-unfolding fraction basepoint registerOf
-fraction-register nearest q =
-    let r : ℕ = q % 2 ^ 32 in
-    let b : ℕ = (q + half nearest) / 2 ^ 32 in
-    let c : ℕ = (r + half nearest) / 2 ^ 32 in
-    omega (ωℤ, ω-minus (pos r) (pos (c * 2 ^ 32)), ω-minus (pos q) (pos (b * 2 ^ 32)))
+  -- "from −2^31" in kernel 1, else from 0
+  pub fraction-from : negℤ (pos (half nearest)) ≤ℤ fraction nearest q
+  unfolding fraction basepoint
+  fraction-from = omega (ωℤ, ω-neg (pos (half nearest)), ω-minus (pos q) (pos ((q + half nearest) / 2 ^ 32 * 2 ^ 32)))
 
--- "from −2^31 to 2^31 − 1" at the nearest sample, else from 0 to 2^32 − 1
-abbrev pub fractionRange : Bool → Iv
-fractionRange nearest = cond nearest (negsuc (2 ^ 31 - 1) to pos (2 ^ 31 - 1)) (pos 0 to pos (2 ^ 32 - 1))
+  -- "to 2^31 − 1" in kernel 1, else to 2^32 − 1
+  pub fraction-to : fraction nearest q <ℤ (pos (2 ^ 32) -ℤ pos (half nearest))
+  unfolding fraction basepoint
+  fraction-to = omega (ωℤ, ω-minus (pos (2 ^ 32)) (pos (half nearest)), ω-minus (pos q) (pos ((q + half nearest) / 2 ^ 32 * 2 ^ 32)))
 
-pub fraction-in : (nearest : Bool) (q : ℕ) → fraction nearest q ∈ fractionRange nearest
-unfolding fraction basepoint
-fraction-in true q =
-    let e = ω-minus (pos q) (pos ((q + 2 ^ 31) / 2 ^ 32 * 2 ^ 32)) in
-    record { low = omega (ωℤ, e); high = omega (ωℤ, e) }
-fraction-in false q =
-    let e = ω-minus (pos q) (pos ((q + 0) / 2 ^ 32 * 2 ^ 32)) in
-    record { low = omega (ωℤ, e); high = omega (ωℤ, e) }
+  -- a whole number of samples moves the basepoint alone
+  pub fraction-register : fraction nearest (registerOf q) ≡ fraction nearest q
+  unfolding fraction basepoint registerOf
+  fraction-register =
+      let r : ℕ = q % 2 ^ 32 in
+      let b : ℕ = (q + half nearest) / 2 ^ 32 in
+      let c : ℕ = (r + half nearest) / 2 ^ 32 in
+      omega (ωℤ, ω-minus (pos r) (pos (c * 2 ^ 32)), ω-minus (pos q) (pos (b * 2 ^ 32)))
 
--- 14 bits: from −8192 to 8191 at the nearest sample, else from 0 to 16383
-abbrev pub fourteenRange : Bool → Iv
-fourteenRange nearest = cond nearest (negsuc 8191 to pos 8191) (pos 0 to pos 16383)
-
-pub fourteen-in : (nearest : Bool) (q : ℕ) → fourteenBits (fraction nearest q) ∈ fourteenRange nearest
+-- ---- the filter's 14 bits
+pub fourteen-is : (f : ℤ) → IsFloor f (2 ^ 18) (fourteenBits f)
 unfolding fourteenBits
-fourteen-in true q = i-floor (2 ^ 18) (lit< tt) (fraction-in true q)
-fourteen-in false q = i-floor (2 ^ 18) (lit< tt) (fraction-in false q)
+fourteen-is f = floor-is f (2 ^ 18) (lit< tt)
+
+-- from −8192 to 8191 at the nearest sample, else from 0 to 16383
+pub fourteen-nearest : (q : ℕ) → In (negsuc 8191) (pos 8191) (fourteenBits (fraction true q))
+unfolding fourteenBits
+fourteen-nearest q = i-floor (2 ^ 18) (lit< tt) (record { low = fraction-from true q; high = <ℤ-suc {y = pos (2 ^ 31 - 1)} (fraction-to true q) })
+
+pub fourteen-before : (q : ℕ) → In (pos 0) (pos 16383) (fourteenBits (fraction false q))
+unfolding fourteenBits
+fourteen-before q = i-floor (2 ^ 18) (lit< tt) (record { low = fraction-from false q; high = <ℤ-suc {y = pos (2 ^ 32 - 1)} (fraction-to false q) })

@@ -6,7 +6,7 @@ use mathlib.Core.Bool.{Bool, true, false, _&&_, true≢false}
 use Prim.Native.Nat.{ℕ, zero, suc, _+_, _-_, _*_, _/_, _^_, _≤_, _<_, zero-le, min}
 use native.Mathlib.Nat.{suc-ne-zero, le-trans, le-of-eq, le-of-lt, lt-of-not-le, lt-irrefl, zero-lt-suc, lt-of-lt-of-le, lt-of-le-of-lt, mul-comm, mul-one, zero-mul, mul-pos, mul-le-mul-left, mul-le-mul-right, div-lt-iff-lt-mul, mul-div-mul-right}
 use native.Mathlib.Omega.{arith}
-use borrow.Author.Tests.{lt-ltb, ne-eqb}
+use borrow.Author.Tests.{le-leb, lt-leb}
 use lib.Dec.{T, ltb, eqb, lt→ltb, lit≤, eqb→eq, ltb→lt}
 use lib.IntN.{ℤ, pos}
 use lib.Pow.{pow-pos}
@@ -15,7 +15,7 @@ use lib.Ieee.Exact.{HasValue}
 use lib.Ieee.Fits.{up-pos, down-pos, and-l, mul-fits}
 use lib.Ieee.Order.{le-of-values}
 use mir.Facts.{or-yes}
-use Rattle.oscillator.specs.Word.{refused, inRange, nearestWord, ratioWord}
+use Rattle.oscillator.specs.Word.{refused, isWord, inRange, nearestWord, ratioWord}
 use Rattle.oscillator.proofs.Exact.{less, exact}
 use Rattle.oscillator.proofs.Rounding.{from-halves, too-large}
 
@@ -80,14 +80,11 @@ plus-word m e = refl
 
 -- ---- refusal 4 from 8 up
 large : (w : ℕ) → 2 ^ 34 < w → inRange w ≡ refused 4
-unfolding inRange
-large w h = simp (ne-eqb w 0 (positive w h), lt-ltb (2 ^ 34) w h)
-  where
-    positive : (w : ℕ) → 2 ^ 34 < w → w ≡ 0 → ⊥
-    positive w h e = omega arith
+unfolding inRange isWord
+large w h = simp (le-leb 1 w (omega arith), lt-leb w (2 ^ 34) h)
 
 none : inRange 0 ≡ refused 4
-unfolding inRange
+unfolding inRange isWord
 none = refl
 
 at-least-eight : (m : ℕ) (e : ℤ) → le eight (fin false m e) ≡ true → 8 * down e ≤ m * up e
@@ -214,13 +211,13 @@ minus-case m e t z =
     let v = halves-are true m e t (subst (λ (k : ℕ). k < 2 ^ 1024 * down e) (sym b) (mul-pos (pow-pos 1024) (down-pos e))) in
     minus-good (fin true m e) (halfWords (fin true m e)) (down e) (down-pos e) (subst (λ (k : ℕ). HasValue (halfWords (fin true m e)) true k (down e)) b v) (minus-word m e z)
 
-pub below-8 : (x : Float) → T (fits binary64 x) → le nought x ≡ true → eq x (inf false) ≡ false → le eight x ≡ false → Product x (halfWords x)
+pub under-eight : (x : Float) → T (fits binary64 x) → le nought x ≡ true → eq x (inf false) ≡ false → le eight x ≡ false → Product x (halfWords x)
 unfolding eq
-below-8 nan t z f h = unfold le in never (sym z)
-below-8 (inf true) t z f h = unfold le in never (sym z)
-below-8 (inf false) t z f h = never f
-below-8 (fin true m e) t z f h = minus-case m e t (is-zero m e z)
-below-8 (fin false m e) t z f h = plus-case m e t (scaled (m * up e) (down e) (below-eight m e h))
+under-eight nan t z f h = unfold le in never (sym z)
+under-eight (inf true) t z f h = unfold le in never (sym z)
+under-eight (inf false) t z f h = never f
+under-eight (fin true m e) t z f h = minus-case m e t (is-zero m e z)
+under-eight (fin false m e) t z f h = plus-case m e t (scaled (m * up e) (down e) (below-eight m e h))
   where
     scaled : (a d : ℕ) → a < 8 * d → a * 2 ^ 33 < 2 ^ 36 * d
     scaled a d h = omega arith

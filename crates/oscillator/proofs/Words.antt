@@ -1,49 +1,55 @@
--- What the layers above cite of words: an accepted one lies in 1..2^34, and no refusal is 0. Assumes nothing.
+-- What the layers above cite of words: what a word is, that an accepted setting gives one, and which numbers a refusal has. Assumes nothing.
 use mathlib.Core.Path.{_≡_, refl}
-use mathlib.Core.Bool.{Bool, true, false, _||_}
+use mathlib.Core.Bool.{Bool, true, false, not, _&&_}
 use Prim.Native.Nat.{ℕ, zero, suc, _*_, _^_, _≤_}
 use native.Mathlib.Omega.{arith}
-use borrow.Author.Tests.{ltb-false, eqb-false}
-use lib.Dec.{ltb, eqb}
+use borrow.Author.Tests.{leb-true, le-leb, not-false}
+use lib.Dec.{leb, eqb}
 use lib.Ieee.{nan, inf, fin, up, down}
 use Rattle.oscillator.specs.declared.settings.Setting.{Setting}
 use Rattle.oscillator.specs.declared.settings.Setting.the-variants as setting
-use Rattle.oscillator.specs.Word.{Outcome, word, refused, refuseIf, inRange, nearestWord, ratioWord, ratesWord, wordOf}
+use Rattle.oscillator.specs.Word.{Outcome, word, refused, refuseIf, isWord, inRange, nearestWord, ratioWord, ratesWord, wordOf}
 
--- what is asked of an outcome: a word in 1..2^34, or a refusal that is not 0
-abbrev pub Sound : Outcome → Type 0
+-- ---- the test, both ways
+pub word-is : (w : ℕ) → 1 ≤ w → w ≤ 2 ^ 34 → isWord w ≡ true
+unfolding isWord
+word-is w h l = rw (le-leb 1 w h, le-leb w (2 ^ 34) l)
+
+pub is-word : (w : ℕ) → isWord w ≡ true → (1 ≤ w) × (w ≤ 2 ^ 34)
+unfolding isWord
+is-word w e = go (leb 1 w) (leb w (2 ^ 34)) refl refl e
+  where
+    go : (a b : Bool) → leb 1 w ≡ a → leb w (2 ^ 34) ≡ b → a && b ≡ true → (1 ≤ w) × (w ≤ 2 ^ 34)
+    go true true p q e = (leb-true 1 w p, leb-true w (2 ^ 34) q)
+    go true false p q e = let z : _≡_ {A = ℕ} 0 1 = cc in absurd (omega arith)
+    go false b p q e = let z : _≡_ {A = ℕ} 0 1 = cc in absurd (omega arith)
+
+-- ---- every setting
+-- a word in 1..2^34, or a refusal 2, 3 or 4
+abbrev Sound : Outcome → Type 0
 Sound (word w) = (1 ≤ w) × (w ≤ 2 ^ 34)
-Sound (refused n) = n ≡ 0 → ⊥
+Sound (refused n) = (2 ≤ n) × (n ≤ 4)
 
-if-sound : (b : Bool) (n : ℕ) (o : Outcome) → (n ≡ 0 → ⊥) → (b ≡ false → Sound o) → Sound (refuseIf b n o)
+if-sound : (b : Bool) (n : ℕ) (o : Outcome) → (2 ≤ n) × (n ≤ 4) → (b ≡ false → Sound o) → Sound (refuseIf b n o)
 if-sound true n o h g = h
 if-sound false n o h g = g refl
 
 range-sound : (w : ℕ) → Sound (inRange w)
 unfolding inRange
-range-sound w = if-sound (eqb w 0 || ltb (2 ^ 34) w) 4 (word w) (omega arith) (λ e. within (eqb w 0) (ltb (2 ^ 34) w) refl refl e)
-  where
-    above : (w ≡ 0 → ⊥) → 1 ≤ w
-    above h = omega arith
+range-sound w = if-sound (not (isWord w)) 4 (word w) (omega arith, omega arith) (λ e. is-word w (not-false (isWord w) e))
 
-    within : (a b : Bool) → eqb w 0 ≡ a → ltb (2 ^ 34) w ≡ b → a || b ≡ false → (1 ≤ w) × (w ≤ 2 ^ 34)
-    within true b p q e = let z : _≡_ {A = ℕ} 0 1 = cc in absurd (omega arith)
-    within false true p q e = let z : _≡_ {A = ℕ} 0 1 = cc in absurd (omega arith)
-    within false false p q e = (above (eqb-false w 0 p), ltb-false (2 ^ 34) w q)
-
-pub sound : (s : Setting) → Sound (wordOf s)
+sound : (s : Setting) → Sound (wordOf s)
 unfolding ratioWord ratesWord
 sound (setting.Word w) = range-sound w
-sound (setting.Ratio nan) = omega arith
-sound (setting.Ratio (inf s)) = omega arith
+sound (setting.Ratio nan) = (omega arith, omega arith)
+sound (setting.Ratio (inf s)) = (omega arith, omega arith)
 sound (setting.Ratio (fin true zero e)) = range-sound 0
-sound (setting.Ratio (fin true (suc m) e)) = omega arith
+sound (setting.Ratio (fin true (suc m) e)) = (omega arith, omega arith)
 sound (setting.Ratio (fin false m e)) = range-sound (nearestWord (m * up e) (down e))
-sound (setting.Rates i o) = if-sound (eqb o 0) 3 (inRange (nearestWord i o)) (omega arith) (λ e. range-sound (nearestWord i o))
+sound (setting.Rates i o) = if-sound (eqb o 0) 3 (inRange (nearestWord i o)) (omega arith, omega arith) (λ e. range-sound (nearestWord i o))
 
--- the same of an outcome that is known
 pub word-within : (s : Setting) (w : ℕ) → wordOf s ≡ word w → (1 ≤ w) × (w ≤ 2 ^ 34)
 word-within s w e = rw e at (sound s)
 
-pub refusal-not-zero : (s : Setting) (n : ℕ) → wordOf s ≡ refused n → n ≡ 0 → ⊥
-refusal-not-zero s n e = rw e at (sound s)
+pub refusal-within : (s : Setting) (n : ℕ) → wordOf s ≡ refused n → (2 ≤ n) × (n ≤ 4)
+refusal-within s n e = rw e at (sound s)

@@ -1,7 +1,7 @@
 -- The control word that a setting stands for (document 01, "Settings and control word", and the refusals 2, 3 and 4 of "What each refusal hands back"). Definitions only.
 use Prim.Native.Nat.{ℕ, zero, suc, _*_, _^_}
-use mathlib.Core.Bool.{Bool, cond, true, false, _||_}
-use lib.Dec.{ltb, eqb}
+use mathlib.Core.Bool.{Bool, cond, true, false, not, _&&_}
+use lib.Dec.{leb, eqb}
 use lib.Ieee.{Float, nan, inf, fin, up, down}
 use lib.IntN.{pos, natAbs}
 use Rattle.integers.specs.Floor.{roundDiv}
@@ -24,9 +24,13 @@ outcomeOf (answer.Refused n) = refused n
 abbrev pub refuseIf : Bool → ℕ → Outcome → Outcome
 refuseIf test n follows = cond test (refused n) follows
 
--- "from 1 to 2^34"; refusal 4: "word 0 or above 2^34, after rounding"
+-- "A word W is .. from 1 to 2^34"
+unfoldable pub isWord : ℕ → Bool
+isWord w = leb 1 w && leb w (2 ^ 34)
+
+-- refusal 4: "word 0 or above 2^34, after rounding"
 unfoldable pub inRange : ℕ → Outcome
-inRange w = refuseIf (eqb w 0 || ltb (2 ^ 34) w) 4 (word w)
+inRange w = refuseIf (not (isWord w)) 4 (word w)
 
 -- "A word W is Fin/Fout times 2^32", "rounded to the nearest whole number, halves upward": the word of the ratio a / c. It is not negative, and natAbs takes it to ℕ.
 unfoldable pub nearestWord : ℕ → ℕ → ℕ

@@ -9,4 +9,5 @@ pub use register::filter_fraction;
 pub use register::step;
 pub use settings::Setting;
 pub use settings::WordAnswer;
+pub use settings::is_word;
 pub use settings::word_of;

@@ -1,6 +1,6 @@
 // A setting, and the control word that it stands for.
 ghost use mathlib.Core.Path.{_≡_};
-ghost use Rattle.oscillator.specs.Word.{inRange, ratioWord, ratesWord, wordOf, outcomeOf};
+ghost use Rattle.oscillator.specs.Word.{isWord, inRange, ratioWord, ratesWord, wordOf, outcomeOf};
 
 // A setting as it arrives: a word, the measured ratio of the input rate to the output rate, or the two rates in hertz, input first.
 pub enum Setting {
@@ -24,13 +24,22 @@ const UNIT: u64 = 4294967296;
 const LARGEST: u64 = 17179869184;
 
 // A word is from 1 to 2^34.
+pub fn is_word(w: u64) -> bool
+    ensures { λ r. ⌜ r ≡ isWord w ⌝ }
+{
+    if w < 1 {
+        return false;
+    }
+    w <= LARGEST
+}
+
 fn in_range(w: u64) -> WordAnswer
     ensures { λ r. ⌜ outcomeOf r ≡ inRange w ⌝ }
 {
-    if w == 0 || w > LARGEST {
-        return WordAnswer::Refused(4);
+    if is_word(w) {
+        return WordAnswer::Word(w);
     }
-    WordAnswer::Word(w)
+    WordAnswer::Refused(4)
 }
 
 // The product by 2^32 is exact, and so is its double. The whole part of that counts half words, and one half more, halved, is the word with halves upward.

@@ -1,5 +1,5 @@
-// Runs the settled examples of document 01 that are not starred, and then settings at the edges of the rules, and prints what it finds, a line for each. The file
-// `stdout` has what document 01 says. The starred examples are theorems, in specs/Starred.antt.
+// Runs the settled examples of document 01 that are not starred, so far those on ratios, and then settings at the edges of the rules, and prints what it finds, a line for
+// each. The file `stdout` has what document 01 says. The starred examples are theorems, in specs/Starred.antt.
 use libc::STDOUT_FILENO;
 use oscillator::Setting;
 use oscillator::WordAnswer;

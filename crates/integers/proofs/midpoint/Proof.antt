@@ -8,7 +8,7 @@ use mir.Syntax.{w16, w64}
 use Rattle.integers.specs.Ring.{Expr, cast, lit, _:+_}
 use Rattle.integers.specs.Floor.{floorDiv, round-even}
 use Rattle.integers.specs.Range.{_to_}
-use Rattle.integers.specs.Machine.{Known, none, _&_, whole, fits, mach}
+use Rattle.integers.specs.Machine.{Known, none, _&_, whole, fits, computed}
 use Rattle.integers.specs.Operations.{Reads, reads, r-shr, r-cast, r-fits}
 use Rattle.integers.proofs.midpoint.Statement.{statement}
 use Rattle.integers.proofs.midpoint.Tie as tie
@@ -33,8 +33,11 @@ module _ (c : tie.Start) where
   known : Known (a ∷ b ∷ []) (negsuc 32767 to pos 32767 ∷ negsuc 32767 to pos 32767 ∷ [])
   known = whole w16 (c .fits .a) & whole w16 (c .fits .b) & none
 
-  half : Reads (shrZ (mach (a ∷ b ∷ []) sum) 2) (floorDiv (a +ℤ b +ℤ pos 1) 2) (negsuc 32767 to pos 32767)
+  half : Reads (shrZ (computed (a ∷ b ∷ []) sum) 2) (floorDiv (a +ℤ b +ℤ pos 1) 2) (negsuc 32767 to pos 32767)
   half = r-shr 2 (lit< tt) (reads known sum tt)
+
+returns : tie.Need-returns
+returns c = r-cast w16 (r-cast w64 (half c) tt) tt .same ∙ sym (round-even (a c +ℤ b c) 1 (lit< tt))
 
 cast-x : tie.Need-cast-x
 cast-x c = fits (known c) x tt
@@ -50,9 +53,6 @@ add-half-2 c = fits (known c) sum tt
 
 cast-result : tie.Need-cast-result
 cast-result c = r-fits (r-cast w64 (half c) tt) tt
-
-returns : tie.Need-returns
-returns c = r-cast w16 (r-cast w64 (half c) tt) tt .same ∙ sym (round-even (a c +ℤ b c) 1 (lit< tt))
 
 pub midpoint-spec : {M : Type 1} → statement M
 midpoint-spec = tie.close (tie.spec cast-x cast-y add-half add-half-2 cast-result returns)

@@ -12,7 +12,7 @@ use Rattle.integers.specs.Difference.{ω-minus}
 use Rattle.integers.specs.Order.{ωℤ}
 use Rattle.integers.specs.Range.{_to_}
 use Rattle.integers.specs.Ring.{Expr, loc, lit, _:-_}
-use Rattle.integers.specs.Machine.{Known, none, _&_, fits, is}
+use Rattle.integers.specs.Machine.{Known, none, _&_, fits, computes}
 use Rattle.integers.specs.Operations.{Reads, r-unsigned, r-in}
 use Rattle.oscillator.specs.Position.{basepoint, fraction}
 use Rattle.oscillator.specs.Register.{topBitOf}
@@ -38,46 +38,47 @@ unfolding fraction
 here nearest r e = rw e (omega (ωℤ, ω-minus (pos r) (pos 0)))
 
 -- ---- what the code reads
-widened : (r : ℕ) → r < 2 ^ 32 → Reads (toZ w64 r) (pos r) (pos 0 to pos (2 ^ 32))
-widened r h = r-unsigned w64 (omega arith) tt
-
-known : (r : ℕ) → r < 2 ^ 32 → Known (toZ w64 r ∷ []) (pos 0 to pos (2 ^ 32) ∷ [])
-known r h = r-in (widened r h) & none
-
 abbrev less : Expr
 less = loc 0 :- lit (pos (2 ^ 32))
+
+module _ (s : tie.Start) where
+  abbrev n : Bool
+  n = s .args .nearest
+
+  abbrev r : ℕ
+  r = s .args .register
+
+  small : r < 2 ^ 32
+  small = s .fits .register .fits
+
+  widened : Reads (toZ w64 r) (pos r) (pos 0 to pos (2 ^ 32))
+  widened = r-unsigned w64 (omega (arith, small)) tt
+
+  known : Known (toZ w64 r ∷ []) (pos 0 to pos (2 ^ 32) ∷ [])
+  known = r-in widened & none
 
 cast-whole : tie.Need-cast-whole
 cast-whole c = search needs
 
 sub-result : tie.Need-sub-result
-sub-result c = let s = c .before .before in fits (known (s .args .register) (s .fits .register .fits)) less tt
+sub-result c = fits (known (c .before .before)) less tt
 
 returns : tie.Need-returns
 returns c =
     let s = c .before .before in
-    let n = s .args .nearest in
-    let r = s .args .register in
-    let h = s .fits .register .fits in
-    let l : 2 ^ 31 ≤ r = omega (arith, c .if2 .taken) in
-    is (known r h) less tt ∙ ap (λ (z : ℤ). z -ℤ pos (2 ^ 32)) (widened r h .same) ∙ above n r (basepoint-of n r h (c .before .if1 .taken) ∙ set r h l)
+    let l : 2 ^ 31 ≤ r s = omega (arith, c .if2 .taken) in
+    computes (known s) less tt
+    ∙ ap (λ (z : ℤ). z -ℤ pos (2 ^ 32)) (widened s .same)
+    ∙ above (n s) (r s) (basepoint-of (n s) (r s) (small s) (c .before .if1 .taken) ∙ set (r s) (small s) l)
 
 returns-2 : tie.Need-returns-2
 returns-2 c =
     let s = c .before .before in
-    let n = s .args .nearest in
-    let r = s .args .register in
-    let h = s .fits .register .fits in
-    let l : r < 2 ^ 31 = omega (arith, c .if2 .left) in
-    widened r h .same ∙ here n r (basepoint-of n r h (c .before .if1 .taken) ∙ clear r l)
+    let l : r s < 2 ^ 31 = omega (arith, c .if2 .left) in
+    widened s .same ∙ here (n s) (r s) (basepoint-of (n s) (r s) (small s) (c .before .if1 .taken) ∙ clear (r s) l)
 
 returns-3 : tie.Need-returns-3
-returns-3 c =
-    let s = c .before in
-    let n = s .args .nearest in
-    let r = s .args .register in
-    let h = s .fits .register .fits in
-    widened r h .same ∙ here n r (basepoint-of n r h (c .if1 .left))
+returns-3 c = let s = c .before in widened s .same ∙ here (n s) (r s) (basepoint-of (n s) (r s) (small s) (c .if1 .left))
 
 pub fraction-spec : {M : Type 1} → statement M
 fraction-spec = tie.close (tie.spec cast-whole sub-result returns returns-2 returns-3)

@@ -1,6 +1,6 @@
 -- `oscillator::register::step` meets its contract: the whole part of the word adds nothing to the register. Assumes nothing.
 use borrow.Author.Needs.{needs}
-use Rattle.oscillator.specs.Register.{stepped}
+use Rattle.oscillator.specs.Register.{registerOf, stepped}
 use Rattle.oscillator.proofs.register.step.Statement.{statement}
 use Rattle.oscillator.proofs.register.step.Tie as tie
 
@@ -11,7 +11,7 @@ wrapping-add-u32-requires : tie.Need-wrapping-add-u32-requires
 wrapping-add-u32-requires c κs = search needs
 
 returns : tie.Need-returns
-unfolding stepped
+unfolding stepped registerOf
 returns c = search needs
 
 pub step-spec : {M : Type 1} → statement M

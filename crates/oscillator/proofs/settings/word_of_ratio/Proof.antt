@@ -9,35 +9,35 @@ use borrow.Author.Tests.{not-true, not-false}
 use lib.Dec.{T}
 use lib.Ieee.{binary64, fits, le, div, ofBits}
 use Rattle.oscillator.specs.Word.{inRange}
-use Rattle.oscillator.proofs.Ratio.{Product, nought, halfWords, below-zero, infinite, from-eight, below-8}
+use Rattle.oscillator.proofs.Ratio.{Product, nought, halfWords, below-zero, infinite, from-eight, under-eight}
 use Rattle.oscillator.proofs.settings.word_of_ratio.Statement.{statement}
 use Rattle.oscillator.proofs.settings.word_of_ratio.Tie as tie
-
--- what owning an f64 tells: the format holds it
-held : (c : tie.Start) → T (fits binary64 (c .args .x))
-held c = subst T (sym (c .good .0 .1)) tt
-
-not-below : (c : tie.Else1) → le nought (c .before .args .x) ≡ true
-unfolding ofBits
-not-below c = not-false (le nought (c .before .args .x)) (c .if1 .left)
-
-product : (c : tie.Else3) → Product (c .before .before .before .args .x) (halfWords (c .before .before .before .args .x))
-unfolding ofBits div
-product c =
-    let s = c .before .before .before in
-    below-8 (s .args .x) (held s) (not-below (c .before .before)) (c .before .if2 .left) (c .if3 .left)
 
 returns : tie.Need-returns
 unfolding ofBits
 returns c = sym (below-zero (c .before .args .x) (not-true (le nought (c .before .args .x)) (c .if1 .taken)))
 
-returns-2 : tie.Need-returns-2
-unfolding ofBits div
-returns-2 c = sym (infinite (c .before .before .args .x) (c .if2 .taken))
+not-below : (c : tie.Else1) → le nought (c .before .args .x) ≡ true
+unfolding ofBits
+not-below c = not-false (le nought (c .before .args .x)) (c .if1 .left)
 
 returns-3 : tie.Need-returns-3
 unfolding ofBits div
 returns-3 c = sym (from-eight (c .before .before .before .args .x) (not-below (c .before .before)) (c .before .if2 .left) (c .if3 .taken))
+
+returns-2 : tie.Need-returns-2
+unfolding ofBits div
+returns-2 c = sym (infinite (c .before .before .args .x) (c .if2 .taken))
+
+-- what owning an f64 tells: the format holds it
+held : (c : tie.Start) → T (fits binary64 (c .args .x))
+held c = subst T (sym (c .good .0 .1)) tt
+
+product : (c : tie.Else3) → Product (c .before .before .before .args .x) (halfWords (c .before .before .before .args .x))
+unfolding ofBits div
+product c =
+    let s = c .before .before .before in
+    under-eight (s .args .x) (held s) (not-below (c .before .before)) (c .before .if2 .left) (c .if3 .left)
 
 truncating-f64-to-u64-requires : tie.Need-truncating-f64-to-u64-requires
 unfolding ofBits
