@@ -3,7 +3,6 @@
 --     signed 0xFFFF ≡ negsuc 0,   bits (negsuc 0) ≡ 0xFFFF      by refl;   bits-signed and signed-bits: each undoes the other
 use mathlib.Core.Path.{_≡_, refl}
 use Prim.Native.Nat.{ℕ, _^_, _≤_, _<_}
-use native.Mathlib.Omega.{arith}
 use borrow.Author.Tests.{le-ltb}
 use lib.IntN.{ℤ, pos, negsuc, _+ℤ_, _-ℤ_}
 use lib.Signed.{_≤ℤ_, _<ℤ_}

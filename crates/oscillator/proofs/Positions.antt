@@ -1,6 +1,6 @@
 -- What ties the register to exact positions: the register stays Q modulo 2^32, the advance is that of the basepoint and at most 4, and the register's fraction is the
 -- position's. The layers above cite these laws and open none of the definitions. Assumes nothing.
-use mathlib.Core.Path.{_≡_, refl, sym, ap, _∙_, subst}
+use mathlib.Core.Path.{_≡_, refl, ap, _∙_, subst}
 use mathlib.Core.Bool.{Bool, true, false, cond}
 use mathlib.Core.List.{List, [], _∷_, _++_, foldr}
 use Prim.Native.Nat.{ℕ, _+_, _-_, _*_, _/_, _%_, _^_, _≤_, _<_}

@@ -1,7 +1,7 @@
 -- Positions, basepoints and fractions (document 01, "Oscillator"), exact: a position never wraps. Definitions only.
 --
--- A position counts 2^-32 of an input sample. Kernels are told apart by one thing only, whether their basepoint is the nearest sample (kernel 1) or the one
--- before (kernels 0, 2, 3): the argument `nearest`.
+-- A position counts 2^-32 of an input sample. The oscillator tells kernels apart by one thing only, the argument `nearest`: whether the basepoint is the nearest sample
+-- (kernel 1) or the one before (kernels 0, 2, 3).
 use mathlib.Core.Bool.{Bool, cond}
 use mathlib.Core.List.{List, [], _∷_}
 use Prim.Native.Nat.{ℕ, _+_, _*_, _/_, _^_}
