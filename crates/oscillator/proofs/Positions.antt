@@ -10,8 +10,8 @@ use lib.Dec.{ltb, lit<}
 use lib.IntN.{ℤ, pos, negsuc, negℤ, _+ℤ_, _-ℤ_}
 use lib.Signed.{_≤ℤ_, _<ℤ_}
 use Rattle.integers.specs.Difference.{ω-add, ω-neg, ω-minus}
-use Rattle.integers.specs.Order.{ωℤ, <ℤ-suc}
-use Rattle.integers.specs.Floor.{IsFloor, floor-is}
+use Rattle.integers.specs.Order.{ωℤ}
+use Rattle.integers.specs.Floor.{floorDiv, IsFloor, floor-is}
 use Rattle.integers.specs.Range.{In, i-floor}
 use Rattle.oscillator.specs.Position.{position, half, basepoint, fraction, fourteenBits}
 use Rattle.oscillator.specs.Register.{registerOf, stepped, steps, carryOf, topBitOf, advanceOf}
@@ -153,11 +153,16 @@ pub fourteen-is : (f : ℤ) → IsFloor f (2 ^ 18) (fourteenBits f)
 unfolding fourteenBits
 fourteen-is f = floor-is f (2 ^ 18) (lit< tt)
 
+fourteen-in : (nearest : Bool) (q : ℕ)
+    → In (floorDiv (negℤ (pos (half nearest))) (2 ^ 18)) (floorDiv (pos (2 ^ 32 - 1) -ℤ pos (half nearest)) (2 ^ 18)) (fourteenBits (fraction nearest q))
+unfolding fourteenBits
+fourteen-in nearest q =
+    let top : fraction nearest q ≤ℤ (pos (2 ^ 32 - 1) -ℤ pos (half nearest)) = omega (ωℤ, fraction-to nearest q, ω-minus (pos (2 ^ 32)) (pos (half nearest)), ω-minus (pos (2 ^ 32 - 1)) (pos (half nearest))) in
+    i-floor (2 ^ 18) (lit< tt) (record { low = fraction-from nearest q; high = top })
+
 -- from −8192 to 8191 at the nearest sample, else from 0 to 16383
 pub fourteen-nearest : (q : ℕ) → In (negsuc 8191) (pos 8191) (fourteenBits (fraction true q))
-unfolding fourteenBits
-fourteen-nearest q = i-floor (2 ^ 18) (lit< tt) (record { low = fraction-from true q; high = <ℤ-suc {y = pos (2 ^ 31 - 1)} (fraction-to true q) })
+fourteen-nearest q = fourteen-in true q
 
 pub fourteen-before : (q : ℕ) → In (pos 0) (pos 16383) (fourteenBits (fraction false q))
-unfolding fourteenBits
-fourteen-before q = i-floor (2 ^ 18) (lit< tt) (record { low = fraction-from false q; high = <ℤ-suc {y = pos (2 ^ 32 - 1)} (fraction-to false q) })
+fourteen-before q = fourteen-in false q

@@ -6,9 +6,9 @@ use native.Mathlib.Omega.{arith}
 use Rattle.oscillator.specs.Word.{nearestWord}
 
 -- the definition in naturals
-word-is : (a c : ℕ) → nearestWord a c ≡ (2 * (a * 2 ^ 32) + c) / (2 * c)
+in-naturals : (a c : ℕ) → nearestWord a c ≡ (2 * (a * 2 ^ 32) + c) / (2 * c)
 unfolding nearestWord
-word-is a c = omega arith
+in-naturals a c = omega arith
 
 twice : (a : ℕ) → a * 2 ^ 33 ≡ 2 * (a * 2 ^ 32)
 twice a = omega arith
@@ -19,17 +19,17 @@ from-halves a c h =
     ∙ div-div-eq-div-mul (a * 2 ^ 33 + c) c 2
     ∙ ap (λ (z : ℕ). (z + c) / (c * 2)) (twice a)
     ∙ ap (λ (z : ℕ). (2 * (a * 2 ^ 32) + c) / z) (mul-comm c 2)
-    ∙ sym (word-is a c)
+    ∙ sym (in-naturals a c)
 
 half-first : (n d : ℕ) → n + d / 2 ≡ (2 * n + d) / 2
 half-first n d = omega arith
 
 pub by-half : (a c : ℕ) → (a * 2 ^ 32 + c / 2) / c ≡ nearestWord a c
-by-half a c = ap (λ (z : ℕ). z / c) (half-first (a * 2 ^ 32) c) ∙ div-div-eq-div-mul (2 * (a * 2 ^ 32) + c) 2 c ∙ sym (word-is a c)
+by-half a c = ap (λ (z : ℕ). z / c) (half-first (a * 2 ^ 32) c) ∙ div-div-eq-div-mul (2 * (a * 2 ^ 32) + c) 2 c ∙ sym (in-naturals a c)
 
 -- ---- a ratio of 8 or more has a word above 2^34
 pub too-large : (a c : ℕ) → 0 < c → 8 * c ≤ a → 2 ^ 34 < nearestWord a c
-too-large a c h l = rw (word-is a c) (le-div-iff-mul-le (doubled c h) .1 (past a c l))
+too-large a c h l = rw (in-naturals a c) (le-div-iff-mul-le (doubled c h) .1 (past a c l))
   where
     doubled : (c : ℕ) → 0 < c → 0 < 2 * c
     doubled c h = omega arith

@@ -23,6 +23,12 @@ cast-result c = search needs
 returns : tie.Need-returns
 returns c = search needs
 
+returns-2 : tie.Need-returns-2
+returns-2 c =
+    let n = c .before .args .n in
+    let h : 65535 - n < 2 ^ 15 = omega arith in
+    rw (missing (65535 - n) h, le-ltb n (2 ^ 15) (c .if1 .left)) (toZ-ofZ {w = w16} {z = negsuc (65535 - n)} (record { sfits = h }) ∙ ap negsuc (omega arith))
+
 sub-below : tie.Need-sub-below
 sub-below c = search needs
 
@@ -31,12 +37,6 @@ cast-below c = search needs
 
 sub-result : tie.Need-sub-result
 sub-result c = let n = c .before .args .n in let h : 65535 - n < 2 ^ 15 = omega arith in rw (missing (65535 - n) h) (record { sfits = h })
-
-returns-2 : tie.Need-returns-2
-returns-2 c =
-    let n = c .before .args .n in
-    let h : 65535 - n < 2 ^ 15 = omega arith in
-    rw (missing (65535 - n) h, le-ltb n (2 ^ 15) (c .if1 .left)) (toZ-ofZ {w = w16} {z = negsuc (65535 - n)} (record { sfits = h }) ∙ ap negsuc (omega arith))
 
 pub signed-spec : {M : Type 1} → statement M
 signed-spec = tie.close (tie.spec cast-result returns sub-below cast-below sub-result returns-2)
