@@ -5,19 +5,23 @@
 -- says that (e >> 1) as i16 reads as ⌊e / 2⌋, where the range of e, halved, fits 16 bits; `r-fits ..` answers the cast's need, and `.same` is the result.
 use mathlib.Core.Path.{_≡_, refl, sym, _∙_, ap, subst}
 use mathlib.Core.Bool.{Bool, true, false, not}
-use mathlib.Core.List.{List}
-use Prim.Native.Nat.{ℕ, _^_, _<_, _≤_}
+use mathlib.Core.List.{List, [], _∷_}
+use Prim.Native.Nat.{ℕ, zero, suc, _^_, _<_, _≤_}
 use native.Mathlib.Nat.{lt-of-le-of-lt}
 use lib.Dec.{T, ltb, ltb→lt}
 use lib.IntN.{ℤ, pos, natAbs}
 use lib.Signed.{_≤ℤ_, _<ℤ_, leZ, ltZ, leZ-yes, ltZ-yes, ltZ-no, nonNeg, yes-nonNeg, pos-natAbs, shrZ, quotZ, mag-shr}
-use mir.Syntax.{Width, w64}
-use mir.Val.{Fits, SFits, bits, hbits, toZ, ofZ}
+use lib.ListN.{getD}
+use mir.Syntax.{Width, w8, w16, w32, w64, w128}
+use mir.Val.{Val, Fits, SFits, bits, hbits, toZ, ofZ}
 use mir.Facts.{toZ-ofZ, toZ-pos}
+use denote.Array.{each}
+use denote.Shadow.{shadow}
+use denote.Signed.{SInt}
 use Rattle.integers.specs.Ring.{Expr, eval}
 use Rattle.integers.specs.Order.{ωℤ, ≤ℤ-trans, lt-or-le, nn-pos}
 use Rattle.integers.specs.Floor.{floorDiv, shr-floor, quot-floor}
-use Rattle.integers.specs.Range.{In, Interval, _∈_, _to_, i-floor}
+use Rattle.integers.specs.Range.{In, Interval, _∈_, _to_, i-lit, i-floor}
 use Rattle.integers.specs.Machine.{stored, computed, range, safe, roomFor, Known, inside, computes, i-fits}
 
 pub record Reads (t z : ℤ) (r : Interval) : Type 0 where
@@ -86,3 +90,17 @@ lt-no p q e = ltZ-no (subst (λ (b : Bool). T (not b)) (sym (sym (λ i. ltZ (p i
 
 pub le-no : {t u x y : ℤ} → t ≡ x → u ≡ y → leZ t u ≡ false → y <ℤ x
 le-no {t} {u} {x} {y} p q e = lt-or-le y x (λ h. h) (λ h. absurd (subst T (sym (λ i. leZ (p i) (q i)) ∙ e) (h .le)))
+
+-- ---- an element of an array of signed integers, at any index: `search (needs, elem-sfits)` finds it in what owning the array tells
+pub elem-sfits : (w : Width) (xs : List ℤ) (us : List Val) (i : ℕ) → shadow (each ℤ (SInt w .own) xs us) → SFits w (getD xs i (pos 0))
+elem-sfits w [] us i p = i-fits (i-lit (pos 0)) (room w)
+  where
+    room : (w : Width) → T (roomFor w (pos 0 to pos 0))
+    room w8 = tt
+    room w16 = tt
+    room w32 = tt
+    room w64 = tt
+    room w128 = tt
+elem-sfits w (x ∷ xs) [] i p = absurd p
+elem-sfits w (x ∷ xs) (u ∷ us) zero p = record { sfits = p .0 .1 }
+elem-sfits w (x ∷ xs) (u ∷ us) (suc i) p = elem-sfits w xs us i (p .1)

@@ -47,16 +47,15 @@ pub fn advance(nearest: bool, old: u32, new: u32, word: u64) -> u64
 }
 
 // The register's distance from the basepoint, in 2^-32 of a sample.
+// At the nearest sample: the register half a sample on, wrapped, less half a sample, so from −2^31 to 2^31 − 1.
 fn fraction(nearest: bool, register: u32) -> i64
     ensures { λ r. ⌜ r ≡ fraction nearest register ⌝ }
 {
-    let whole = register as i64;
     if nearest {
-        if register >= 0x8000_0000 {
-            return whole - 0x1_0000_0000;
-        }
+        let ahead = std::num::wrapping_add_u32(register, 0x8000_0000);
+        return ahead as i64 - 0x8000_0000;
     }
-    whole
+    register as i64
 }
 
 // The fraction as the filter uses it: 14 bits, signed where the basepoint is the nearest sample.

@@ -1,8 +1,8 @@
--- `oscillator::register::fraction` meets its contract: the basepoint of a register is 1 where it is rounded up, else 0. Assumes nothing.
+-- `oscillator::register::fraction` meets its contract: half a sample on, the register wraps where the basepoint is rounded up. Assumes nothing.
 use mathlib.Core.Path.{_≡_, ap, _∙_}
-use mathlib.Core.Bool.{Bool}
+use mathlib.Core.Bool.{Bool, true, false}
 use mathlib.Core.List.{[], _∷_}
-use Prim.Native.Nat.{ℕ, _^_, _≤_, _<_}
+use Prim.Native.Nat.{ℕ, _+_, _*_, _/_, _%_, _^_, _<_}
 use native.Mathlib.Omega.{arith}
 use borrow.Author.Needs.{needs}
 use lib.IntN.{ℤ, pos, _-ℤ_}
@@ -15,70 +15,50 @@ use Rattle.integers.specs.Ring.{Expr, loc, lit, _:-_}
 use Rattle.integers.specs.Machine.{Known, none, _&_, fits, computes}
 use Rattle.integers.specs.Operations.{Reads, r-unsigned, r-in}
 use Rattle.oscillator.specs.Position.{basepoint, fraction}
-use Rattle.oscillator.specs.Register.{topBitOf}
-use Rattle.oscillator.proofs.Positions.{basepoint-of}
 use Rattle.oscillator.proofs.register.fraction.Statement.{statement}
 use Rattle.oscillator.proofs.register.fraction.Tie as tie
 
--- ---- the definition, by where the basepoint is
-set : (r : ℕ) → r < 2 ^ 32 → 2 ^ 31 ≤ r → topBitOf r ≡ 1
-unfolding topBitOf
-set r h l = omega arith
+-- ---- the definition at a `nearest` that is known, of a register r and the register a half a sample on
+rounds : (nearest : Bool) (r a : ℕ) → nearest ≡ true → r < 2 ^ 32 → a ≡ (r + 2 ^ 31) % 2 ^ 32 → pos a -ℤ pos (2 ^ 31) ≡ fraction nearest r
+unfolding fraction basepoint
+rounds nearest r a n h e = rw n (omega (ωℤ, e, ω-minus (pos a) (pos (2 ^ 31)), ω-minus (pos r) (pos ((r + 2 ^ 31) / 2 ^ 32 * 2 ^ 32))))
 
-clear : (r : ℕ) → r < 2 ^ 31 → topBitOf r ≡ 0
-unfolding topBitOf
-clear r h = omega arith
-
-above : (nearest : Bool) (r : ℕ) → basepoint nearest r ≡ 1 → pos r -ℤ pos (2 ^ 32) ≡ fraction nearest r
-unfolding fraction
-above nearest r e = rw e
-
-here : (nearest : Bool) (r : ℕ) → basepoint nearest r ≡ 0 → pos r ≡ fraction nearest r
-unfolding fraction
-here nearest r e = rw e (omega (ωℤ, ω-minus (pos r) (pos 0)))
+cuts : (nearest : Bool) (r : ℕ) → nearest ≡ false → r < 2 ^ 32 → pos r ≡ fraction nearest r
+unfolding fraction basepoint
+cuts nearest r n h = rw n (omega (ωℤ, ω-minus (pos r) (pos ((r + 0) / 2 ^ 32 * 2 ^ 32))))
 
 -- ---- what the code reads
+widened : {n : ℕ} → n < 2 ^ 32 → Reads (toZ w64 n) (pos n) (pos 0 to pos (2 ^ 32))
+widened h = r-unsigned w64 (omega (arith, h)) tt
+
+known : {n : ℕ} → n < 2 ^ 32 → Known (toZ w64 n ∷ []) (pos 0 to pos (2 ^ 32) ∷ [])
+known h = r-in (widened h) & none
+
 abbrev less : Expr
-less = loc 0 :- lit (pos (2 ^ 32))
-
-module _ (s : tie.Start) where
-  abbrev n : Bool
-  n = s .args .nearest
-
-  abbrev r : ℕ
-  r = s .args .register
-
-  small : r < 2 ^ 32
-  small = s .fits .register .fits
-
-  widened : Reads (toZ w64 r) (pos r) (pos 0 to pos (2 ^ 32))
-  widened = r-unsigned w64 (omega (arith, small)) tt
-
-  known : Known (toZ w64 r ∷ []) (pos 0 to pos (2 ^ 32) ∷ [])
-  known = r-in widened & none
-
-cast-whole : tie.Need-cast-whole
-cast-whole c = search needs
-
-sub-result : tie.Need-sub-result
-sub-result c = fits (known (c .before .before)) less tt
+less = loc 0 :- lit (pos (2 ^ 31))
 
 returns : tie.Need-returns
 returns c =
     let s = c .before .before in
-    let l : 2 ^ 31 ≤ r s = omega (arith, c .if2 .taken) in
-    computes (known s) less tt
-    ∙ ap (λ (z : ℤ). z -ℤ pos (2 ^ 32)) (widened s .same)
-    ∙ above (n s) (r s) (basepoint-of (n s) (r s) (small s) (c .before .if1 .taken) ∙ set (r s) (small s) l)
+    let small = c .wrapping-add-u32 .ok in
+    computes (known small) less tt
+    ∙ ap (λ (z : ℤ). z -ℤ pos (2 ^ 31)) (widened small .same)
+    ∙ rounds (s .args .nearest) (s .args .register) _ (c .before .if1 .taken) (s .fits .register .fits) (c .wrapping-add-u32 .ensures)
 
 returns-2 : tie.Need-returns-2
-returns-2 c =
-    let s = c .before .before in
-    let l : r s < 2 ^ 31 = omega (arith, c .if2 .left) in
-    widened s .same ∙ here (n s) (r s) (basepoint-of (n s) (r s) (small s) (c .before .if1 .taken) ∙ clear (r s) l)
+returns-2 c = let s = c .before in widened (s .fits .register .fits) .same ∙ cuts (s .args .nearest) (s .args .register) (c .if1 .left) (s .fits .register .fits)
 
-returns-3 : tie.Need-returns-3
-returns-3 c = let s = c .before in widened s .same ∙ here (n s) (r s) (basepoint-of (n s) (r s) (small s) (c .if1 .left))
+sub-result : tie.Need-sub-result
+sub-result c = fits (known (c .wrapping-add-u32 .ok)) less tt
+
+wrapping-add-u32-requires : tie.Need-wrapping-add-u32-requires
+wrapping-add-u32-requires c κs = search needs
+
+cast-result : tie.Need-cast-result
+cast-result c = search needs
+
+cast-result-2 : tie.Need-cast-result-2
+cast-result-2 c = search needs
 
 pub fraction-spec : {M : Type 1} → statement M
-fraction-spec = tie.close (tie.spec cast-whole sub-result returns returns-2 returns-3)
+fraction-spec = tie.close (tie.spec wrapping-add-u32-requires cast-result sub-result returns cast-result-2 returns-2)

@@ -1,0 +1,79 @@
+-- An output lies at most 1/2 + D/K from the paper's value: demand 3 of one output, for every kernel, position and list of samples. Assumes nothing.
+use mathlib.Core.Path.{_≡_, sym, subst}
+use mathlib.Core.List.{List, [], _∷_}
+use Prim.Native.Nat.{ℕ, _+_, _*_, _^_, _<_}
+use native.Mathlib.Omega.{arith}
+use native.Mathlib.Nat.{le-trans, le-of-eq, mul-pos}
+use lib.Dec.{lit<}
+use lib.IntN.{ℤ, pos, _-ℤ_, _*ℤ_}
+use Rattle.integers.specs.Ring.{Expr, var, lit, neg, _:+_, _:-_, _:*_, ring}
+use Rattle.integers.specs.Inequality.{goal≤, hyp≤, hyp<}
+use Rattle.integers.specs.Floor.{roundDiv, round-is}
+use Rattle.integers.specs.Within.{Within, abs-mul, w-lit, w-sub, w-mul, w-weaken, w-between}
+use Rattle.oscillator.specs.Position.{basepoint, fraction, fourteenBits}
+use Rattle.kernels.specs.Kernel.{Kernel, kernelOf}
+use Rattle.kernels.specs.Value.{polynomial, numerator, unit, rounded, held, output, paper, joinedAt, value}
+use Rattle.kernels.specs.Distance.{jump, Close}
+use Rattle.kernels.proofs.Hold.{held-apart, held-times}
+use Rattle.kernels.proofs.Rows.{denominator-pos}
+use Rattle.kernels.proofs.Near.{near}
+
+-- ---- rounding moves a value by at most a half, both sides times 2 and `unit`. Nothing else is used of the rounding
+pub rounding : (κ : Kernel) (x : ℕ → ℤ) (m : ℤ) → 0 < κ .denominator
+    → Within (unit κ (2 ^ 14)) (pos 2 *ℤ (rounded κ x m *ℤ pos (unit κ (2 ^ 14)) -ℤ numerator κ x m (pos (2 ^ 14))))
+unfolding rounded unit
+rounding κ x m h = half-off (numerator κ x m (pos (2 ^ 14))) (unit κ (2 ^ 14)) (mul-pos h (lit< tt))
+  where
+    half-off : (z : ℤ) (d : ℕ) → 0 < d → Within d (pos 2 *ℤ (roundDiv z d *ℤ pos d -ℤ z))
+    half-off z d h =
+        let ρ : List ℤ = z ∷ roundDiv z d ∷ pos d ∷ [] in
+        let two : Expr = lit (pos 2) in
+        let low = hyp≤ ρ (two :* var 1 :* var 2) (two :* var 0 :+ var 2) (round-is z d h .low) in
+        let high = hyp< ρ (two :* var 0) (two :* var 1 :* var 2 :+ var 2) (round-is z d h .high) in
+        let off : Expr = two :* (var 1 :* var 2 :- var 0) in
+        w-between (goal≤ ρ (neg (var 2)) off (omega arith)) (goal≤ ρ off (var 2) (omega arith))
+
+-- ---- from the rounded value at m/2^14 to the exact value at f/2^32: through the exact value at m/2^14
+-- R is the rounded value, N and Z are the two exact ones, d the denominator
+through : (K d : ℕ) (R N Z : ℤ)
+    → pos K *ℤ (pos 2 *ℤ (R *ℤ pos (d * 2 ^ 42) -ℤ N) *ℤ pos (2 ^ 54)) -ℤ pos 2 *ℤ (pos K *ℤ (Z -ℤ N *ℤ pos (2 ^ 54))) ≡ pos (2 * K) *ℤ (R *ℤ pos (d * 2 ^ 96) -ℤ Z)
+through K d R N Z =
+    let two : Expr = lit (pos 2) in
+    let more : Expr = lit (pos (2 ^ 54)) in
+    ring (pos K ∷ pos d ∷ R ∷ N ∷ Z ∷ [])
+    (var 0 :* (two :* (var 2 :* (var 1 :* lit (pos (2 ^ 42))) :- var 3) :* more) :- two :* (var 0 :* (var 4 :- var 3 :* more)))
+    (two :* var 0 :* (var 2 :* (var 1 :* lit (pos (2 ^ 96))) :- var 4)) tt
+
+module _ (k : ℕ) (x : ℕ → ℤ) (q : ℕ) where
+  abbrev κ : Kernel
+  κ = kernelOf k
+
+  abbrev f : ℤ
+  f = fraction (κ .nearest) q
+
+  abbrev S : ℕ
+  S = unit κ (2 ^ 32)
+
+  before-holding : Within ((κ .K + 2 * jump κ x) * S) (pos (2 * κ .K) *ℤ (rounded κ x (fourteenBits f) *ℤ pos S -ℤ numerator κ x f (pos (2 ^ 32))))
+  unfolding unit
+  before-holding =
+      let m : ℤ = fourteenBits f in
+      subst (Within ((κ .K + 2 * jump κ x) * S)) (through (κ .K) (κ .denominator) (rounded κ x m) (numerator κ x m (pos (2 ^ 14))) (numerator κ x f (pos (2 ^ 32))))
+      (w-weaken (omega arith)
+      (w-sub (w-mul (w-lit (pos (κ .K))) (w-mul (rounding κ x m (denominator-pos k)) (w-lit (pos (2 ^ 54))))) (w-mul (w-lit (pos 2)) (near k x q))))
+
+  -- holding widens no distance
+  pub output-close : Close κ x f (output κ x (fourteenBits f))
+  unfolding Close output paper
+  output-close =
+      let R : ℤ = rounded κ x (fourteenBits f) in
+      let Z : ℤ = numerator κ x f (pos (2 ^ 32)) in
+      let K₂ : ℤ = pos (2 * κ .K) in
+      subst (λ (y : ℤ). Within ((κ .K + 2 * jump κ x) * S) (K₂ *ℤ (y -ℤ held S Z))) (held-times R S)
+      (w-weaken (le-trans (le-of-eq (sym (abs-mul K₂ (R *ℤ pos S -ℤ Z)))) (before-holding .abs)) (w-mul (w-lit K₂) (held-apart S (R *ℤ pos S) Z)))
+
+-- the value of demand 2 at a position over joined samples
+pub value-close : (k : ℕ) (xs : List ℤ) (q : ℕ) → let κ : Kernel = kernelOf k in
+    Close κ (joinedAt xs (basepoint (κ .nearest) q)) (fraction (κ .nearest) q) (value κ xs q)
+unfolding value
+value-close k xs q = output-close k (joinedAt xs (basepoint (kernelOf k .nearest) q)) q

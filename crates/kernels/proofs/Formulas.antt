@@ -1,0 +1,62 @@
+-- The coefficient table is what document 01 prints: the value at u = n/s of each kernel, times its denominator and s³. Assumes nothing.
+use mathlib.Core.Path.{_≡_}
+use lib.IntN.{ℤ, pos, negℤ, _+ℤ_, _-ℤ_, _*ℤ_}
+use Rattle.integers.specs.Ring.{lit, neg, _:+_, _:-_, _:*_, _:=_, identity}
+use Rattle.kernels.specs.Kernel.{kernelOf, four}
+use Rattle.kernels.specs.Value.{column, polynomial, numerator}
+use Rattle.kernels.proofs.Rows.{numeratorE}
+
+module _ (xm x0 x1 x2 n s : ℤ) where
+  -- 1, u, u² and u³ times s³
+  abbrev u⁰ : ℤ
+  u⁰ = s *ℤ s *ℤ s
+
+  abbrev u¹ : ℤ
+  u¹ = n *ℤ s *ℤ s
+
+  abbrev u² : ℤ
+  u² = n *ℤ n *ℤ s
+
+  abbrev u³ : ℤ
+  u³ = n *ℤ n *ℤ n
+
+  -- x0 + u(x1 − x0)
+  pub linear : numerator (kernelOf 0) (four xm x0 x1 x2) n s ≡ x0 *ℤ u⁰ +ℤ u¹ *ℤ (x1 -ℤ x0)
+  unfolding kernelOf numerator polynomial column
+  linear =
+      identity 6 (λ xm x0 x1 x2 n s. numeratorE (kernelOf 0) (four xm x0 x1 x2) n s
+      := x0 :* (s :* s :* s)
+      :+ n :* s :* s :* (x1 :- x0)) tt xm x0 x1 x2 n s
+
+  -- x0 + u(x1 − xm)/2 + u²(x1 − 2x0 + xm)/2
+  pub lagrange : numerator (kernelOf 1) (four xm x0 x1 x2) n s ≡ pos 2 *ℤ x0 *ℤ u⁰ +ℤ u¹ *ℤ (x1 -ℤ xm) +ℤ u² *ℤ (x1 -ℤ pos 2 *ℤ x0 +ℤ xm)
+  unfolding kernelOf numerator polynomial column
+  lagrange =
+      identity 6 (λ xm x0 x1 x2 n s. numeratorE (kernelOf 1) (four xm x0 x1 x2) n s
+      := lit (pos 2) :* x0 :* (s :* s :* s)
+      :+ n :* s :* s :* (x1 :- xm)
+      :+ n :* n :* s :* (x1 :- lit (pos 2) :* x0 :+ xm)) tt xm x0 x1 x2 n s
+
+  -- x0 + u(−x2 + 3x1 − x0 − xm)/2 + u²(x2 − x1 − x0 + xm)/2
+  pub parabolic : numerator (kernelOf 2) (four xm x0 x1 x2) n s
+      ≡ pos 2 *ℤ x0 *ℤ u⁰ +ℤ u¹ *ℤ (negℤ x2 +ℤ pos 3 *ℤ x1 -ℤ x0 -ℤ xm) +ℤ u² *ℤ (x2 -ℤ x1 -ℤ x0 +ℤ xm)
+  unfolding kernelOf numerator polynomial column
+  parabolic =
+      identity 6 (λ xm x0 x1 x2 n s. numeratorE (kernelOf 2) (four xm x0 x1 x2) n s
+      := lit (pos 2) :* x0 :* (s :* s :* s)
+      :+ n :* s :* s :* (neg x2 :+ lit (pos 3) :* x1 :- x0 :- xm)
+      :+ n :* n :* s :* (x2 :- x1 :- x0 :+ xm)) tt xm x0 x1 x2 n s
+
+  -- x0 + u(−x2 + 6x1 − 3x0 − 2xm)/6 + u²(x1 − 2x0 + xm)/2 + u³(x2 − 3x1 + 3x0 − xm)/6
+  pub cubic : numerator (kernelOf 3) (four xm x0 x1 x2) n s
+      ≡ pos 6 *ℤ x0 *ℤ u⁰
+      +ℤ u¹ *ℤ (negℤ x2 +ℤ pos 6 *ℤ x1 -ℤ pos 3 *ℤ x0 -ℤ pos 2 *ℤ xm)
+      +ℤ pos 3 *ℤ u² *ℤ (x1 -ℤ pos 2 *ℤ x0 +ℤ xm)
+      +ℤ u³ *ℤ (x2 -ℤ pos 3 *ℤ x1 +ℤ pos 3 *ℤ x0 -ℤ xm)
+  unfolding kernelOf numerator polynomial column
+  cubic =
+      identity 6 (λ xm x0 x1 x2 n s. numeratorE (kernelOf 3) (four xm x0 x1 x2) n s
+      := lit (pos 6) :* x0 :* (s :* s :* s)
+      :+ n :* s :* s :* (neg x2 :+ lit (pos 6) :* x1 :- lit (pos 3) :* x0 :- lit (pos 2) :* xm)
+      :+ lit (pos 3) :* (n :* n :* s) :* (x1 :- lit (pos 2) :* x0 :+ xm)
+      :+ n :* n :* n :* (x2 :- lit (pos 3) :* x1 :+ lit (pos 3) :* x0 :- xm)) tt xm x0 x1 x2 n s

@@ -1,0 +1,141 @@
+-- Laws of the rows of coefficients: where a kernel starts and ends, that its coefficients sum to 1, and that it reads only the samples that it names. Assumes nothing.
+--
+-- Each is an equation of expressions that hold the row's numbers; `tt` says that antt has computed, for each of the four kernels, that both sides agree.
+use mathlib.Core.Path.{_≡_, refl, sym, _∙_, ap, subst}
+use mathlib.Core.Bool.{Bool, true, false, not, cond, _&&_, _||_}
+use mathlib.Core.List.{List, [], _∷_}
+use Prim.Native.Nat.{ℕ, zero, suc, _+_, _^_, max, _≤_, _<_}
+use native.Mathlib.Omega.{arith}
+use native.Mathlib.Nat.{one-mul, pow-zero, pow-suc}
+use lib.Dec.{T, leb, ltb, leb→le, ltb→lt, lit<}
+use lib.IntN.{ℤ, pos, natAbs, _-ℤ_, _*ℤ_}
+use Rattle.integers.specs.Ring.{Expr, var, lit, _:+_, _:*_, Eqn, _:=_, Check, Holds, at, eval, ring}
+use Rattle.kernels.specs.Kernel.{Kernel, kernelOf, four}
+use Rattle.kernels.specs.Value.{column, polynomial, numerator, unit, rounded, held, output, outside, clips, paper}
+use Rattle.kernels.specs.Distance.{gap, jump}
+
+-- what holds of the four holds of the kernel with any number
+pub of-all : (P : Kernel → Type 0) → P (kernelOf 0) → P (kernelOf 1) → P (kernelOf 2) → P (kernelOf 3) → (k : ℕ) → P (kernelOf k)
+unfolding kernelOf
+of-all P a b c d zero = a
+of-all P a b c d (suc zero) = b
+of-all P a b c d (suc (suc zero)) = c
+of-all P a b c d (suc (suc (suc k))) = d
+
+pub denominator-pos : (k : ℕ) → 0 < kernelOf k .denominator
+unfolding kernelOf
+denominator-pos k = ltb→lt 0 (kernelOf k .denominator) (of-all (λ κ. T (ltb 0 (κ .denominator))) tt tt tt tt k)
+
+-- ---- equations of rows
+-- `numerator` and `unit`, of samples, n and s that are expressions
+abbrev pub numeratorE : Kernel → (ℕ → Expr) → Expr → Expr → Expr
+numeratorE κ x n s =
+    let term : ℕ → ℕ → Expr = λ power place. lit (κ .coefficient power place) :* x place in
+    let v : ℕ → Expr = λ power. term power 0 :+ term power 1 :+ term power 2 :+ term power 3 in
+    v 0 :* (s :* s :* s) :+ v 1 :* (n :* s :* s) :+ v 2 :* (n :* n :* s) :+ v 3 :* (n :* n :* n)
+
+abbrev unitE : Kernel → Expr → Expr
+unitE κ s = lit (pos (κ .denominator)) :* (s :* s :* s)
+
+-- an equation that the four rows pass, at an environment
+row-law : (q : Kernel → Eqn) → Check (q (kernelOf 0)) → Check (q (kernelOf 1)) → Check (q (kernelOf 2)) → Check (q (kernelOf 3)) → (k : ℕ) (ρ : List ℤ) → Holds ρ (q (kernelOf k))
+row-law q a b c d k ρ = holds (q (kernelOf k)) (of-all (λ κ. Check (q κ)) a b c d k)
+  where
+    holds : (e : Eqn) → Check e → Holds ρ e
+    holds (e := f) t = ring ρ e f t
+
+unit-is : (κ : Kernel) (s : ℕ) → pos (κ .denominator) *ℤ (pos s *ℤ pos s *ℤ pos s) ≡ pos (unit κ s)
+unfolding unit
+unit-is κ s = rw (pow-suc s 2, pow-suc s 1, pow-suc s 0, pow-zero s, one-mul s)
+
+module _ (k : ℕ) (x : ℕ → ℤ) (s : ℕ) where
+  -- at u = 0 the value is x0
+  pub starts-at-x0 : numerator (kernelOf k) x (pos 0) (pos s) ≡ x 1 *ℤ pos (unit (kernelOf k) s)
+  unfolding kernelOf numerator polynomial column
+  starts-at-x0 =
+      row-law (λ κ. numeratorE κ var (lit (pos 0)) (var 4) := var 1 :* unitE κ (var 4)) tt tt tt tt k (x 0 ∷ x 1 ∷ x 2 ∷ x 3 ∷ pos s ∷ [])
+      ∙ ap (λ z. x 1 *ℤ z) (unit-is (kernelOf k) s)
+
+  -- at u = 1 it is x1
+  pub ends-at-x1 : numerator (kernelOf k) x (pos s) (pos s) ≡ x 2 *ℤ pos (unit (kernelOf k) s)
+  unfolding kernelOf numerator polynomial column
+  ends-at-x1 =
+      row-law (λ κ. numeratorE κ var (var 4) (var 4) := var 2 :* unitE κ (var 4)) tt tt tt tt k (x 0 ∷ x 1 ∷ x 2 ∷ x 3 ∷ pos s ∷ [])
+      ∙ ap (λ z. x 2 *ℤ z) (unit-is (kernelOf k) s)
+
+-- of samples that are all c it is c at every u: the coefficients sum to 1
+pub constant : (k : ℕ) (c n : ℤ) (s : ℕ) → numerator (kernelOf k) (λ place. c) n (pos s) ≡ c *ℤ pos (unit (kernelOf k) s)
+unfolding kernelOf numerator polynomial column
+constant k c n s =
+    row-law (λ κ. numeratorE κ (λ place. var 0) (var 1) (var 2) := var 0 :* unitE κ (var 2)) tt tt tt tt k (c ∷ n ∷ pos s ∷ [])
+    ∙ ap (λ z. c *ℤ z) (unit-is (kernelOf k) s)
+
+-- ---- named samples
+-- x and y agree where the kernel names a sample
+abbrev pub Agree : Kernel → (ℕ → ℤ) → (ℕ → ℤ) → Type 0
+Agree κ x y = (place : ℕ) → place < 4 → κ .names place ≡ true → x place ≡ y place
+
+-- equal samples at the four places
+numerator-at : (κ : Kernel) (x y : ℕ → ℤ) (n s : ℤ) → x 0 ≡ y 0 → x 1 ≡ y 1 → x 2 ≡ y 2 → x 3 ≡ y 3 → numerator κ x n s ≡ numerator κ y n s
+unfolding numerator polynomial column
+numerator-at κ x y n s a b c d = λ i. numerator κ (four (a i) (b i) (c i) (d i)) n s
+
+-- the i-th number where the test passes, and else the j-th, is the j-th if the two agree where it passes
+either : (ρ : List ℤ) (i j : ℕ) (b : Bool) → (b ≡ true → at ρ i ≡ at ρ j) → eval ρ (cond b (var i) (var j)) ≡ at ρ j
+either ρ i j true h = h refl
+either ρ i j false h = refl
+
+gap-named : (κ : Kernel) {x y : ℕ → ℤ} → Agree κ x y → (place : ℕ) → suc place < 4 → gap κ x place ≡ gap κ y place
+gap-named κ {x} {y} h place l = go (κ .names place) refl (κ .names (suc place)) refl
+  where
+    go : (a : Bool) → κ .names place ≡ a → (b : Bool) → κ .names (suc place) ≡ b
+        → cond (a && b) (natAbs (x (suc place) -ℤ x place)) 0 ≡ cond (a && b) (natAbs (y (suc place) -ℤ y place)) 0
+    go true e true d = let f : x place ≡ y place = h place (omega arith) e in λ i. natAbs (h (suc place) l d i -ℤ f i)
+    go true e false d = refl
+    go false e b d = refl
+
+module _ (k : ℕ) {x y : ℕ → ℤ} (h : Agree (kernelOf k) x y) where
+  -- the samples of x that are not named may be exchanged for those of y
+  pub named-only : (n s : ℤ) → numerator (kernelOf k) x n s ≡ numerator (kernelOf k) y n s
+  unfolding kernelOf numerator polynomial column
+  named-only n s =
+      let ρ : List ℤ = x 0 ∷ x 1 ∷ x 2 ∷ x 3 ∷ y 0 ∷ y 1 ∷ y 2 ∷ y 3 ∷ n ∷ s ∷ [] in
+      let mixed : Kernel → ℕ → Expr = λ κ place. cond (κ .names place) (var place) (var (4 + place)) in
+      let same : (place : ℕ) → place < 4 → at ρ place ≡ x place → at ρ (4 + place) ≡ y place → eval ρ (mixed (kernelOf k) place) ≡ y place
+      = λ place l a b. either ρ place (4 + place) (kernelOf k .names place) (λ e. a ∙ h place l e ∙ sym b) ∙ b in
+      row-law (λ κ. numeratorE κ var (var 8) (var 9) := numeratorE κ (mixed κ) (var 8) (var 9)) tt tt tt tt k ρ
+      ∙ numerator-at (kernelOf k) (λ place. eval ρ (mixed (kernelOf k) place)) y n s
+      (same 0 (lit< tt) refl refl) (same 1 (lit< tt) refl refl) (same 2 (lit< tt) refl refl) (same 3 (lit< tt) refl refl)
+
+  rounded-named : (m : ℤ) → rounded (kernelOf k) x m ≡ rounded (kernelOf k) y m
+  unfolding rounded
+  rounded-named m = rw (named-only m (pos (2 ^ 14)))
+
+  pub output-named : (m : ℤ) → output (kernelOf k) x m ≡ output (kernelOf k) y m
+  unfolding output
+  output-named m = ap (held 1) (rounded-named m)
+
+  pub clips-named : (m : ℤ) → clips (kernelOf k) x m ≡ clips (kernelOf k) y m
+  unfolding clips
+  clips-named m = ap outside (rounded-named m)
+
+  pub paper-named : (f : ℤ) → paper (kernelOf k) x f ≡ paper (kernelOf k) y f
+  unfolding paper
+  paper-named f = ap (held (unit (kernelOf k) (2 ^ 32))) (named-only f (pos (2 ^ 32)))
+
+  pub jump-named : jump (kernelOf k) x ≡ jump (kernelOf k) y
+  unfolding jump
+  jump-named =
+      let g : (place : ℕ) → suc place < 4 → gap (kernelOf k) x place ≡ gap (kernelOf k) y place = gap-named (kernelOf k) h in
+      λ i. max (max (g 0 (lit< tt) i) (g 1 (lit< tt) i)) (g 2 (lit< tt) i)
+
+-- ---- no sample past b + R is named
+pub named-in-reach : (k place : ℕ) → place < 4 → kernelOf k .names place ≡ true → place ≤ kernelOf k .reach + 1
+unfolding kernelOf
+named-in-reach k zero l e = omega arith
+named-in-reach k (suc zero) l e = omega arith
+named-in-reach k (suc (suc zero)) l e = omega (arith, leb→le 1 (kernelOf k .reach) (of-all (λ κ. T (leb 1 (κ .reach))) tt tt tt tt k))
+named-in-reach k (suc (suc (suc zero))) l e =
+    let t : T (not (kernelOf k .names 3) || leb 2 (kernelOf k .reach)) = of-all (λ κ. T (not (κ .names 3) || leb 2 (κ .reach))) tt tt tt tt k in
+    omega (arith, leb→le 2 (kernelOf k .reach) (subst (λ (b : Bool). T (not b || leb 2 (kernelOf k .reach))) e t))
+named-in-reach k (suc (suc (suc (suc place)))) l e = absurd (omega arith)

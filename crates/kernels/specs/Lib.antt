@@ -1,0 +1,4 @@
+pub mod Kernel
+pub mod Value
+pub mod Distance
+pub mod Scale
