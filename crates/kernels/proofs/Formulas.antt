@@ -1,11 +1,14 @@
--- The coefficient table is what document 01 prints: the value at u = n/s of each kernel, times its denominator and s³. Assumes nothing.
-use mathlib.Core.Path.{_≡_}
+-- The coefficient table is what is printed: in document 01 the value at u of each kernel, in source document 002 the coefficients of kernels 2 and 3. Assumes nothing.
+use mathlib.Core.Path.{_≡_, refl}
+use mathlib.Core.List.{List, [], _∷_}
+use Prim.Native.Nat.{ℕ}
 use lib.IntN.{ℤ, pos, negℤ, _+ℤ_, _-ℤ_, _*ℤ_}
 use Rattle.integers.specs.Ring.{lit, neg, _:+_, _:-_, _:*_, _:=_, identity}
-use Rattle.kernels.specs.Kernel.{kernelOf, four}
+use Rattle.kernels.specs.Kernel.{Kernel, kernelOf, four}
 use Rattle.kernels.specs.Value.{column, polynomial, numerator}
 use Rattle.kernels.proofs.Rows.{numeratorE}
 
+-- ---- document 01, at u = n/s, times the denominator and s³
 module _ (xm x0 x1 x2 n s : ℤ) where
   -- 1, u, u² and u³ times s³
   abbrev u⁰ : ℤ
@@ -60,3 +63,30 @@ module _ (xm x0 x1 x2 n s : ℤ) where
       :+ n :* s :* s :* (neg x2 :+ lit (pos 6) :* x1 :- lit (pos 3) :* x0 :- lit (pos 2) :* xm)
       :+ lit (pos 3) :* (n :* n :* s) :* (x1 :- lit (pos 2) :* x0 :+ xm)
       :+ n :* n :* n :* (x2 :- lit (pos 3) :* x1 :+ lit (pos 3) :* x0 :- xm)) tt xm x0 x1 x2 n s
+
+-- ---- source document 002, "y(k) = Σ x(m_k − i) Σ b_ℓ(i) μ^ℓ": the coefficients b_ℓ(i), ℓ = 0 to 3, times the denominator. Index i is sample b − i, at the place 1 − i
+abbrev taps : Kernel → ℕ → List ℤ
+taps κ place = κ .coefficient 0 place ∷ κ .coefficient 1 place ∷ κ .coefficient 2 place ∷ κ .coefficient 3 place ∷ []
+
+abbrev printed : ℤ → ℤ → ℤ → ℤ → List ℤ
+printed a b c d = a ∷ b ∷ c ∷ d ∷ []
+
+abbrev − : ℕ → ℤ
+− n = negℤ (pos n)
+
+pub record Tables : Type 0 where
+  -- table I, times 6, from i = −2 to 1
+  pub cubic-2 : taps (kernelOf 3) 3 ≡ printed (pos 0) (− 1) (pos 0) (pos 1)
+  pub cubic-1 : taps (kernelOf 3) 2 ≡ printed (pos 0) (pos 6) (pos 3) (− 3)
+  pub cubic-0 : taps (kernelOf 3) 1 ≡ printed (pos 6) (− 3) (− 6) (pos 3)
+  pub cubic+1 : taps (kernelOf 3) 0 ≡ printed (pos 0) (− 2) (pos 3) (− 1)
+  -- table II at alpha = 1/2, times 2
+  pub parabolic-2 : taps (kernelOf 2) 3 ≡ printed (pos 0) (− 1) (pos 1) (pos 0)
+  pub parabolic-1 : taps (kernelOf 2) 2 ≡ printed (pos 0) (pos 3) (− 1) (pos 0)
+  pub parabolic-0 : taps (kernelOf 2) 1 ≡ printed (pos 2) (− 1) (− 1) (pos 0)
+  pub parabolic+1 : taps (kernelOf 2) 0 ≡ printed (pos 0) (− 1) (pos 1) (pos 0)
+
+pub tables : Tables
+unfolding kernelOf
+tables =
+    record { cubic-2 = refl; cubic-1 = refl; cubic-0 = refl; cubic+1 = refl; parabolic-2 = refl; parabolic-1 = refl; parabolic-0 = refl; parabolic+1 = refl }

@@ -1,6 +1,7 @@
-pub mod Hold
-pub mod Rows
 pub mod Formulas
+pub mod Rows
+pub mod Hold
+pub mod Card
 pub mod Near
 pub mod Close
 mod Slope

@@ -129,12 +129,20 @@ module _ (k : ℕ) {x y : ℕ → ℤ} (h : Agree (kernelOf k) x y) where
       let g : (place : ℕ) → suc place < 4 → gap (kernelOf k) x place ≡ gap (kernelOf k) y place = gap-named (kernelOf k) h in
       λ i. max (max (g 0 (lit< tt) i) (g 1 (lit< tt) i)) (g 2 (lit< tt) i)
 
--- ---- no sample past b + R is named
+-- ---- R is 1 or 2, and no sample past b + R is named
+pub reach-least : (k : ℕ) → 1 ≤ kernelOf k .reach
+unfolding kernelOf
+reach-least k = leb→le 1 (kernelOf k .reach) (of-all (λ κ. T (leb 1 (κ .reach))) tt tt tt tt k)
+
+pub reach-most : (k : ℕ) → kernelOf k .reach ≤ 2
+unfolding kernelOf
+reach-most k = leb→le (kernelOf k .reach) 2 (of-all (λ κ. T (leb (κ .reach) 2)) tt tt tt tt k)
+
 pub named-in-reach : (k place : ℕ) → place < 4 → kernelOf k .names place ≡ true → place ≤ kernelOf k .reach + 1
 unfolding kernelOf
 named-in-reach k zero l e = omega arith
 named-in-reach k (suc zero) l e = omega arith
-named-in-reach k (suc (suc zero)) l e = omega (arith, leb→le 1 (kernelOf k .reach) (of-all (λ κ. T (leb 1 (κ .reach))) tt tt tt tt k))
+named-in-reach k (suc (suc zero)) l e = omega (arith, reach-least k)
 named-in-reach k (suc (suc (suc zero))) l e =
     let t : T (not (kernelOf k .names 3) || leb 2 (kernelOf k .reach)) = of-all (λ κ. T (not (κ .names 3) || leb 2 (κ .reach))) tt tt tt tt k in
     omega (arith, leb→le 2 (kernelOf k .reach) (subst (λ (b : Bool). T (not b || leb 2 (kernelOf k .reach))) e t))

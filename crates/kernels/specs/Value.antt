@@ -67,6 +67,10 @@ windowAt κ window place = getD window (place + 2 - κ .reach) (pos 0)
 unfoldable pub value : Kernel → List ℤ → ℕ → ℤ
 value κ xs q = output κ (joinedAt xs (basepoint (κ .nearest) q)) (fourteenBits (fraction (κ .nearest) q))
 
+-- and whether it counts as a clip
+unfoldable pub valueClips : Kernel → List ℤ → ℕ → Bool
+valueClips κ xs q = clips κ (joinedAt xs (basepoint (κ .nearest) q)) (fourteenBits (fraction (κ .nearest) q))
+
 -- of the card's register and window: m, the exact value over `unit κ (2 ^ 14)`, the output, and whether it is held
 unfoldable pub filterFraction : Kernel → ℕ → ℤ
 filterFraction κ register = fourteenBits (fraction (κ .nearest) register)

@@ -1,5 +1,5 @@
 -- `kernels::filter::around` meets its contract. Assumes nothing.
-use borrow.Author.Needs.{needs, sfits-of}
+use borrow.Author.Needs.{needs}
 use mathlib.Core.Path.{_≡_, refl, sym, _∙_, ap}
 use mathlib.Core.List.{List, [], _∷_}
 use Prim.Native.Nat.{ℕ, zero, suc, _+_, _-_, _<_, _≤_}
@@ -9,6 +9,7 @@ use lib.ListN.{getD, length, List·getD-eq-default}
 use mir.Syntax.{w16}
 use mir.Val.{toZ, ofZ}
 use mir.Facts.{toZ-ofZ}
+use Rattle.integers.specs.Operations.{elem-sfits}
 use Rattle.kernels.specs.Kernel.{kernelOf}
 use Rattle.kernels.specs.Value.{windowAt}
 use Rattle.kernels.specs.Scale.{places}
@@ -36,9 +37,9 @@ returns : tie.Need-returns
 returns c =
     let s = c .before .before .before .before in
     let w = s .args .t2 in
-    let e₁ : toZ w16 (ofZ w16 (getD w 1 (pos 0))) ≡ getD w 1 (pos 0) = toZ-ofZ (search needs) in
-    let e₂ : toZ w16 (ofZ w16 (getD w 2 (pos 0))) ≡ getD w 2 (pos 0) = toZ-ofZ (search needs) in
-    let e₃ : toZ w16 (ofZ w16 (getD w 3 (pos 0))) ≡ getD w 3 (pos 0) = toZ-ofZ (search needs) in
+    let e₁ : toZ w16 (ofZ w16 (getD w 1 (pos 0))) ≡ getD w 1 (pos 0) = toZ-ofZ (search (needs, elem-sfits)) in
+    let e₂ : toZ w16 (ofZ w16 (getD w 2 (pos 0))) ≡ getD w 2 (pos 0) = toZ-ofZ (search (needs, elem-sfits)) in
+    let e₃ : toZ w16 (ofZ w16 (getD w 3 (pos 0))) ≡ getD w 3 (pos 0) = toZ-ofZ (search (needs, elem-sfits)) in
     let l : length w ≡ 4 = search needs in
     λ place. ap (λ (x : List ℤ). places x place) (λ i. e₁ i ∷ e₂ i ∷ e₃ i ∷ pos 0 ∷ []) ∙ one-past (s .args .kernel) (omega (arith, c .before .before .before .if1 .taken)) w l place
 

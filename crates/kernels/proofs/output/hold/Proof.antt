@@ -11,17 +11,17 @@ use Rattle.kernels.proofs.Hold.{held-in, held-low, held-high, outside-i
 use Rattle.kernels.proofs.output.hold.Statement.{statement}
 use Rattle.kernels.proofs.output.hold.Tie as tie
 
--- a number that both tests let through
-inside : (c : tie.Else2) → In (negℤ (pos 32768)) (pos 32767) (c .before .before .args .z)
-inside c =
-    let s = c .before .before in
-    record { low = lt-no (toZ-ofZ (s .fits .z)) refl (c .if2 .left); high = lt-no refl (toZ-ofZ (s .fits .z)) (c .before .if1 .left) }
-
 returns : tie.Need-returns
 returns c = let h = lt-yes refl (toZ-ofZ (c .before .fits .z)) (c .if1 .taken) in (sym (held-high h), sym (outside-high h))
 
 returns-2 : tie.Need-returns-2
 returns-2 c = let h = lt-yes (toZ-ofZ (c .before .before .fits .z)) refl (c .if2 .taken) in (sym (held-low h), sym (outside-low h))
+
+-- a number that both tests let through
+inside : (c : tie.Else2) → In (negℤ (pos 32768)) (pos 32767) (c .before .before .args .z)
+inside c =
+    let s = c .before .before in
+    record { low = lt-no (toZ-ofZ (s .fits .z)) refl (c .if2 .left); high = lt-no refl (toZ-ofZ (s .fits .z)) (c .before .if1 .left) }
 
 cast-value : tie.Need-cast-value
 cast-value c = subst (SFits w16) (sym (toZ-ofZ (c .before .before .fits .z))) (i-fits (inside c) tt)
