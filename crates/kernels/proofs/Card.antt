@@ -10,7 +10,7 @@ use Rattle.integers.specs.Range.{In}
 use Rattle.oscillator.specs.Position.{basepoint, fourteenBits}
 use Rattle.oscillator.specs.Register.{registerOf}
 use Rattle.oscillator.proofs.Positions.{fraction-register}
-use Rattle.kernels.specs.Kernel.{Kernel, kernelOf}
+use Rattle.kernels.specs.Kernel.{Samples, Kernel, kernelOf}
 use Rattle.kernels.specs.Value.{rounded, output, clips, joinedAt, windowAt, value, valueClips, filterFraction, outputOf, clipOf}
 use Rattle.kernels.proofs.Hold.{held-fits}
 use Rattle.kernels.proofs.Rows.{Agree, output-named, clips-named}
@@ -32,25 +32,28 @@ pub window-newest : (k : ℕ) (window : List ℤ) → windowAt (kernelOf k) wind
 unfolding windowAt
 window-newest k window = let e : kernelOf k .reach + 1 + 2 - kernelOf k .reach ≡ 3 = omega arith in ap (λ (i : ℕ). getD window i (pos 0)) e
 
+-- ---- the register's m is the position's
+pub fraction-card : (κ : Kernel) (q : ℕ) → filterFraction κ (registerOf q) ≡ filterFraction κ q
+unfolding filterFraction
+fraction-card κ q = ap fourteenBits (fraction-register (κ .nearest) q)
+
 -- ---- where the window holds the samples that the kernel names around the basepoint
 module _ (k : ℕ) (xs window : List ℤ) (q : ℕ) where
   abbrev κ : Kernel
   κ = kernelOf k
 
-  abbrev Current : Type 0
-  Current = Agree κ (windowAt κ window) (joinedAt xs (basepoint (κ .nearest) q))
+  abbrev around : Samples
+  around = joinedAt xs (basepoint (κ .nearest) q)
 
-  pub card-output : Current → outputOf κ (registerOf q) window ≡ value κ xs q
-  unfolding outputOf value filterFraction
-  card-output h =
-      output-named k h (filterFraction κ (registerOf q)) ∙ ap (λ (f : ℤ). output κ (joinedAt xs (basepoint (κ .nearest) q)) (fourteenBits f)) (fraction-register (κ .nearest) q)
+  pub card-output : Agree κ (windowAt κ window) around → outputOf κ (registerOf q) window ≡ value κ xs q
+  unfolding outputOf value
+  card-output h = output-named k h (filterFraction κ (registerOf q)) ∙ ap (output κ around) (fraction-card κ q)
 
-  pub card-clip : Current → clipOf κ (registerOf q) window ≡ valueClips κ xs q
-  unfolding clipOf valueClips filterFraction
-  card-clip h =
-      clips-named k h (filterFraction κ (registerOf q)) ∙ ap (λ (f : ℤ). clips κ (joinedAt xs (basepoint (κ .nearest) q)) (fourteenBits f)) (fraction-register (κ .nearest) q)
+  pub card-clip : Agree κ (windowAt κ window) around → clipOf κ (registerOf q) window ≡ valueClips κ xs q
+  unfolding clipOf valueClips
+  card-clip h = clips-named k h (filterFraction κ (registerOf q)) ∙ ap (clips κ around) (fraction-card κ q)
 
--- every output is a sample
-pub output-fits : (κ : Kernel) (x : ℕ → ℤ) (m : ℤ) → In (negℤ (pos 32768)) (pos 32767) (output κ x m)
+-- ---- every output is a sample
+pub output-fits : (κ : Kernel) (x : Samples) (m : ℤ) → In (negℤ (pos 32768)) (pos 32767) (output κ x m)
 unfolding output
 output-fits κ x m = held-fits (rounded κ x m)

@@ -10,9 +10,9 @@ use Rattle.integers.specs.Ring.{Expr, var, lit, neg, _:+_, _:-_, _:*_, ring}
 use Rattle.integers.specs.Inequality.{goal≤, hyp≤, hyp<}
 use Rattle.integers.specs.Floor.{roundDiv, round-is}
 use Rattle.integers.specs.Within.{Within, abs-mul, w-lit, w-sub, w-mul, w-weaken, w-between}
-use Rattle.oscillator.specs.Position.{basepoint, fraction, fourteenBits}
-use Rattle.kernels.specs.Kernel.{Kernel, kernelOf}
-use Rattle.kernels.specs.Value.{polynomial, numerator, unit, rounded, held, output, paper, joinedAt, value}
+use Rattle.oscillator.specs.Position.{basepoint, fraction}
+use Rattle.kernels.specs.Kernel.{Samples, Kernel, kernelOf}
+use Rattle.kernels.specs.Value.{numerator, unit, rounded, held, output, paper, joinedAt, filterFraction, value}
 use Rattle.kernels.specs.Distance.{jump, Close}
 use Rattle.kernels.proofs.Hold.{held-apart, held-times}
 use Rattle.kernels.proofs.Rows.{denominator-pos}
@@ -44,29 +44,31 @@ through K d R N Z =
     (var 0 :* (two :* (var 2 :* (var 1 :* lit (pos (2 ^ 42))) :- var 3) :* more) :- two :* (var 0 :* (var 4 :- var 3 :* more)))
     (two :* var 0 :* (var 2 :* (var 1 :* lit (pos (2 ^ 96))) :- var 4)) tt
 
-module _ (k : ℕ) (x : ℕ → ℤ) (q : ℕ) where
+module _ (k : ℕ) (x : Samples) (q : ℕ) where
   abbrev κ : Kernel
   κ = kernelOf k
 
   abbrev f : ℤ
   f = fraction (κ .nearest) q
 
+  abbrev m : ℤ
+  m = filterFraction κ q
+
   abbrev S : ℕ
   S = unit κ (2 ^ 32)
 
-  before-holding : Within ((κ .K + 2 * jump κ x) * S) (pos (2 * κ .K) *ℤ (rounded κ x (fourteenBits f) *ℤ pos S -ℤ numerator κ x f (pos (2 ^ 32))))
+  before-holding : Within ((κ .K + 2 * jump κ x) * S) (pos (2 * κ .K) *ℤ (rounded κ x m *ℤ pos S -ℤ numerator κ x f (pos (2 ^ 32))))
   unfolding unit
   before-holding =
-      let m : ℤ = fourteenBits f in
       subst (Within ((κ .K + 2 * jump κ x) * S)) (through (κ .K) (κ .denominator) (rounded κ x m) (numerator κ x m (pos (2 ^ 14))) (numerator κ x f (pos (2 ^ 32))))
       (w-weaken (omega arith)
       (w-sub (w-mul (w-lit (pos (κ .K))) (w-mul (rounding κ x m (denominator-pos k)) (w-lit (pos (2 ^ 54))))) (w-mul (w-lit (pos 2)) (near k x q))))
 
   -- holding widens no distance
-  pub output-close : Close κ x f (output κ x (fourteenBits f))
+  pub output-close : Close κ x f (output κ x m)
   unfolding Close output paper
   output-close =
-      let R : ℤ = rounded κ x (fourteenBits f) in
+      let R : ℤ = rounded κ x m in
       let Z : ℤ = numerator κ x f (pos (2 ^ 32)) in
       let K₂ : ℤ = pos (2 * κ .K) in
       subst (λ (y : ℤ). Within ((κ .K + 2 * jump κ x) * S) (K₂ *ℤ (y -ℤ held S Z))) (held-times R S)

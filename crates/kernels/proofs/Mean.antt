@@ -11,7 +11,7 @@ use Rattle.integers.specs.Inequality.{by-nn}
 use Rattle.integers.specs.Floor.{round-mono}
 use Rattle.integers.specs.Range.{In, weaken}
 use Rattle.oscillator.proofs.Positions.{fourteen-before}
-use Rattle.kernels.specs.Kernel.{Kernel, kernelOf}
+use Rattle.kernels.specs.Kernel.{kernelOf}
 use Rattle.kernels.specs.Value.{column, polynomial, numerator, unit, rounded, filterFraction}
 use Rattle.kernels.proofs.Rows.{numeratorE}
 

@@ -16,10 +16,10 @@ use Rattle.integers.specs.Inequality.{goal≤, hyp≤, hyp<, by-nn}
 use Rattle.integers.specs.Within.{Within, abs-zero, w-lit, w-neg, w-add, w-mul, w-weaken, w-high, w-between}
 use Rattle.oscillator.specs.Position.{fraction, fourteenBits}
 use Rattle.oscillator.proofs.Positions.{fraction-from, fraction-to, fourteen-is}
-use Rattle.kernels.specs.Kernel.{Kernel, kernelOf}
-use Rattle.kernels.specs.Value.{column, polynomial, numerator, unit}
+use Rattle.kernels.specs.Kernel.{Samples, Kernel, kernelOf}
+use Rattle.kernels.specs.Value.{column, polynomial, numerator, unit, filterFraction}
 use Rattle.kernels.specs.Distance.{gap, jump}
-use Rattle.kernels.proofs.Rows.{of-all}
+use Rattle.kernels.proofs.Rows.{of-all, polynomialE}
 use Rattle.kernels.proofs.Slope.{slope, rises}
 
 -- ---- a column whose coefficients sum to 0, by the differences of neighbours
@@ -145,7 +145,7 @@ homogeneous : (κ : Kernel) (x : ℕ → ℤ) (n s e : ℤ) → numerator κ x (
 unfolding numerator polynomial
 homogeneous κ x n s e =
     let v : ℕ → ℤ = λ power. column (κ .coefficient power) x in
-    let at : Expr → Expr → Expr = λ n s. var 3 :* (s :* s :* s) :+ var 4 :* (n :* s :* s) :+ var 5 :* (n :* n :* s) :+ var 6 :* (n :* n :* n) in
+    let at : Expr → Expr → Expr = polynomialE (λ power. var (3 + power)) in
     ring (n ∷ s ∷ e ∷ v 0 ∷ v 1 ∷ v 2 ∷ v 3 ∷ []) (at (var 0 :* var 2) (var 1 :* var 2)) (at (var 0) (var 1) :* (var 2 :* var 2 :* var 2)) tt
 
 module _ (κ : Kernel) (K : ℕ) (x : ℕ → ℤ) where
@@ -187,6 +187,8 @@ module _ (κ : Kernel) (K : ℕ) (x : ℕ → ℤ) where
       (λ l. near-from a f (u .0) (from (κ .nearest) q) (<ℤ-weak l)) (λ l. near-from b f (u .1) l (to (κ .nearest) q))))
 
 -- |value at f/2^32 − value at m/2^14| ≤ D/K, both sides times K and `unit κ (2 ^ 32)`, which is 2^54 times `unit κ (2 ^ 14)`
-pub near : (k : ℕ) (x : ℕ → ℤ) (q : ℕ) → let κ : Kernel = kernelOf k in let f : ℤ = fraction (κ .nearest) q in
-    Within (jump κ x * unit κ (2 ^ 32)) (pos (κ .K) *ℤ (numerator κ x f (pos (2 ^ 32)) -ℤ numerator κ x (fourteenBits f) (pos (2 ^ 14)) *ℤ pos (2 ^ 54)))
+pub near : (k : ℕ) (x : Samples) (q : ℕ) → let κ : Kernel = kernelOf k in
+    Within (jump κ x * unit κ (2 ^ 32))
+    (pos (κ .K) *ℤ (numerator κ x (fraction (κ .nearest) q) (pos (2 ^ 32)) -ℤ numerator κ x (filterFraction κ q) (pos (2 ^ 14)) *ℤ pos (2 ^ 54)))
+unfolding filterFraction
 near k x q = near-tame (kernelOf k) (kernelOf k .K) x (tamed k) q

@@ -27,12 +27,14 @@ unfolding kernelOf
 denominator-pos k = ltb→lt 0 (kernelOf k .denominator) (of-all (λ κ. T (ltb 0 (κ .denominator))) tt tt tt tt k)
 
 -- ---- equations of rows
--- `numerator` and `unit`, of samples, n and s that are expressions
+-- `polynomial`, `numerator` and `unit` of expressions
+abbrev pub polynomialE : (ℕ → Expr) → Expr → Expr → Expr
+polynomialE v n s = v 0 :* (s :* s :* s) :+ v 1 :* (n :* s :* s) :+ v 2 :* (n :* n :* s) :+ v 3 :* (n :* n :* n)
+
 abbrev pub numeratorE : Kernel → (ℕ → Expr) → Expr → Expr → Expr
 numeratorE κ x n s =
     let term : ℕ → ℕ → Expr = λ power place. lit (κ .coefficient power place) :* x place in
-    let v : ℕ → Expr = λ power. term power 0 :+ term power 1 :+ term power 2 :+ term power 3 in
-    v 0 :* (s :* s :* s) :+ v 1 :* (n :* s :* s) :+ v 2 :* (n :* n :* s) :+ v 3 :* (n :* n :* n)
+    polynomialE (λ power. term power 0 :+ term power 1 :+ term power 2 :+ term power 3) n s
 
 abbrev unitE : Kernel → Expr → Expr
 unitE κ s = lit (pos (κ .denominator)) :* (s :* s :* s)

@@ -5,8 +5,8 @@ use Prim.Native.Nat.{ℕ, zero, suc, _+_, _*_, _^_, _<_, _≤_}
 use native.Mathlib.Omega.{arith}
 use native.Mathlib.Nat.{mul-le-mul-right}
 use borrow.Author.Tests.{ne-eqb}
-use lib.Dec.{T, leb, leb→le, eqb, ltb}
-use lib.IntN.{ℤ, pos, natAbs, _+ℤ_, _*ℤ_}
+use lib.Dec.{T, leb, leb→le, eqb}
+use lib.IntN.{ℤ, natAbs, _*ℤ_}
 use lib.Signed.{leZ-yes}
 use mir.Facts.{and-yes}
 use Rattle.integers.specs.Range.{in-w, weaken}

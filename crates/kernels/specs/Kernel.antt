@@ -7,6 +7,10 @@ use Prim.Native.Nat.{ℕ, zero, suc}
 use lib.IntN.{ℤ, pos, negℤ}
 use lib.ListN.{getD}
 
+-- samples by place
+abbrev pub Samples : Type 0
+Samples = ℕ → ℤ
+
 -- one of four by its number; the fourth for every number above 3
 abbrev pub four : {A : Type 0} → A → A → A → A → ℕ → A
 four a b c d zero = a

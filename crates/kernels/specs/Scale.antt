@@ -3,10 +3,10 @@ use mathlib.Core.List.{List}
 use Prim.Native.Nat.{ℕ, _-_, _*_, _^_}
 use lib.IntN.{ℤ, pos}
 use lib.ListN.{getD}
-use Rattle.kernels.specs.Kernel.{Kernel, four}
+use Rattle.kernels.specs.Kernel.{Samples, four, Kernel}
 
 -- the samples of an array, by place
-abbrev pub places : List ℤ → ℕ → ℤ
+abbrev pub places : List ℤ → Samples
 places x place = getD x place (pos 0)
 
 -- the code scales each kernel by its own degree: this power of two is left out of `numerator` and of `unit`

@@ -1,6 +1,5 @@
 // The exact value of a kernel over a window of samples, as a numerator over `unit`.
 ghost use mathlib.Core.Path.{_≡_};
-ghost use mathlib.Core.Bool.{true};
 ghost use Prim.Native.Nat.{ℕ, _*_, _^_, _<_};
 ghost use lib.IntN.{ℤ, pos, _*ℤ_};
 ghost use Rattle.integers.specs.Within.{Within};

@@ -1,9 +1,8 @@
 // The output of a kernel: its exact value, rounded once and held to 16 bits.
 ghost use mathlib.Core.Path.{_≡_};
 ghost use Prim.Native.Nat.{_*_, _^_, _<_};
-ghost use lib.IntN.{pos, negsuc, _*ℤ_};
+ghost use lib.IntN.{pos, _*ℤ_};
 ghost use Rattle.integers.specs.Floor.{floorDiv, roundDiv};
-ghost use Rattle.integers.specs.Range.{In};
 ghost use Rattle.integers.specs.Within.{Within};
 ghost use Rattle.kernels.specs.Kernel.{coefficients, kernelOf};
 ghost use Rattle.kernels.specs.Value.{unit, held, outside, outputOf, clipOf};

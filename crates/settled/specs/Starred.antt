@@ -11,7 +11,7 @@ use Rattle.oscillator.specs.Word.{word, refused, isWord, inRange, nearestWord, 
 use Rattle.oscillator.specs.Position.{position, basepoint, fraction, fourteenBits}
 use Rattle.oscillator.specs.Register.{registerOf, stepped, carryOf, topBitOf, advanceOf}
 use Rattle.kernels.specs.Kernel.{Kernel, four, kernelOf}
-use Rattle.kernels.specs.Value.{column, polynomial, numerator, unit, rounded, held, output, outside, clips, joinedAt, value}
+use Rattle.kernels.specs.Value.{column, polynomial, numerator, unit, rounded, held, output, outside, clips, joinedAt, filterFraction, value}
 
 -- the float 2^e, or −2^e
 abbrev power : Bool → ℤ → Float
@@ -66,7 +66,7 @@ pub record Starred : Type 0 where
   pub ratios : (wordOf (Ratio (power false (negℤ (pos 33)))) ≡ word 1) × (wordOf (Ratio (power false (negℤ (pos 34)))) ≡ refused 4) × (wordOf (Ratio (power true (pos 0))) ≡ refused 2)
 
 pub starred : Starred
-unfolding isWord inRange nearestWord ratioWord ratesWord position basepoint fraction fourteenBits registerOf stepped carryOf topBitOf advanceOf kernelOf column polynomial numerator unit rounded held output outside clips joinedAt value
+unfolding isWord inRange nearestWord ratioWord ratesWord position basepoint fraction fourteenBits registerOf stepped carryOf topBitOf advanceOf kernelOf column polynomial numerator unit rounded held output outside clips joinedAt filterFraction value
 starred = record {
   linear = (refl, refl);
   cubic = (refl, refl);

@@ -6,6 +6,7 @@ use Rattle.integers.specs.Ring.{Expr, var, lit, _:+_, _:*_}
 use Rattle.integers.specs.Range.{±_, w-in}
 use Rattle.integers.specs.Machine.{Known, none, _&_, fits, gives}
 use Rattle.kernels.specs.Value.{polynomial}
+use Rattle.kernels.proofs.Rows.{polynomialE}
 use Rattle.kernels.proofs.filter.cubic.Statement.{statement}
 use Rattle.kernels.proofs.filter.cubic.Tie as tie
 
@@ -25,10 +26,7 @@ known c = w-in (c .pre .0) & w-in (c .pre .1) & w-in (c .pre .2) & w-in (c .pre 
 
 returns : tie.Need-returns
 unfolding polynomial
-returns c =
-    let m = var 4 in
-    let s = lit (pos (2 ^ 14)) in
-    gives (known c) sum (var 0 :* (s :* s :* s) :+ var 1 :* (m :* s :* s) :+ var 2 :* (m :* m :* s) :+ var 3 :* (m :* m :* m)) tt tt
+returns c = gives (known c) sum (polynomialE var (var 4) (lit (pos (2 ^ 14)))) tt tt
 
 mul-a : tie.Need-mul-a
 mul-a c = fits (known c) (var 3 :* var 4) tt

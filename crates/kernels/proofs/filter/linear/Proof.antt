@@ -1,12 +1,14 @@
 -- `kernels::filter::linear` meets its contract. Assumes nothing.
-use mathlib.Core.Path.{_≡_, _∙_, ap}
+use mathlib.Core.Path.{_∙_, ap}
 use mathlib.Core.List.{[], _∷_}
 use Prim.Native.Nat.{_*_, _^_}
 use lib.IntN.{ℤ, pos, _*ℤ_}
 use Rattle.integers.specs.Ring.{Expr, var, lit, _:+_, _:*_, ring}
 use Rattle.integers.specs.Range.{±_, w-in}
 use Rattle.integers.specs.Machine.{Known, none, _&_, fits, computes}
+use Rattle.kernels.specs.Kernel.{four}
 use Rattle.kernels.specs.Value.{polynomial}
+use Rattle.kernels.proofs.Rows.{polynomialE}
 use Rattle.kernels.proofs.filter.linear.Statement.{statement}
 use Rattle.kernels.proofs.filter.linear.Tie as tie
 
@@ -21,10 +23,8 @@ returns : tie.Need-returns
 unfolding polynomial
 returns c =
     let a = c .args in
-    let s = lit (pos (2 ^ 14)) in
     ap (λ (z : ℤ). z *ℤ pos (2 ^ 28)) (computes (known c) sum tt)
-    ∙ ring (a .v0 ∷ a .v1 ∷ a .m ∷ []) (sum :* lit (pos (2 ^ 28)))
-    (var 0 :* (s :* s :* s) :+ var 1 :* (var 2 :* s :* s) :+ lit (pos 0) :* (var 2 :* var 2 :* s) :+ lit (pos 0) :* (var 2 :* var 2 :* var 2)) tt
+    ∙ ring (a .v0 ∷ a .v1 ∷ a .m ∷ []) (sum :* lit (pos (2 ^ 28))) (polynomialE (four (var 0) (var 1) (lit (pos 0)) (lit (pos 0))) (var 2) (lit (pos (2 ^ 14)))) tt
 
 mul-result : tie.Need-mul-result
 mul-result c = fits (known c) (var 1 :* var 2) tt

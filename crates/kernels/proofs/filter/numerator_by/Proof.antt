@@ -7,7 +7,6 @@ use mir.Syntax.{w64}
 use mir.Val.{SFits}
 use mir.Facts.{toZ-ofZ}
 use Rattle.integers.specs.Difference.{one-*ℤ}
-use Rattle.integers.specs.Within.{Within}
 use Rattle.integers.specs.Range.{w-in}
 use Rattle.integers.specs.Machine.{stored, i-fits}
 use Rattle.kernels.specs.Kernel.{four, kernelOf}

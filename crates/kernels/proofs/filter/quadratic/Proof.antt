@@ -1,12 +1,14 @@
 -- `kernels::filter::quadratic` meets its contract. Assumes nothing.
-use mathlib.Core.Path.{_≡_, _∙_, ap}
+use mathlib.Core.Path.{_∙_, ap}
 use mathlib.Core.List.{[], _∷_}
 use Prim.Native.Nat.{_*_, _^_}
 use lib.IntN.{ℤ, pos, _*ℤ_}
 use Rattle.integers.specs.Ring.{Expr, var, lit, _:+_, _:*_, ring}
 use Rattle.integers.specs.Range.{±_, w-in}
 use Rattle.integers.specs.Machine.{Known, none, _&_, fits, computes}
+use Rattle.kernels.specs.Kernel.{four}
 use Rattle.kernels.specs.Value.{polynomial}
+use Rattle.kernels.proofs.Rows.{polynomialE}
 use Rattle.kernels.proofs.filter.quadratic.Statement.{statement}
 use Rattle.kernels.proofs.filter.quadratic.Tie as tie
 
@@ -23,11 +25,9 @@ known c = w-in (c .pre .0) & w-in (c .pre .1) & w-in (c .pre .2) & w-in (c .pre 
 returns : tie.Need-returns
 unfolding polynomial
 returns c =
-    let m = var 3 in
-    let s = lit (pos (2 ^ 14)) in
     let p = c .args in
     ap (λ (z : ℤ). z *ℤ pos (2 ^ 14)) (computes (known c) sum tt)
-    ∙ ring (p .v0 ∷ p .v1 ∷ p .v2 ∷ p .m ∷ []) (sum :* s) (var 0 :* (s :* s :* s) :+ var 1 :* (m :* s :* s) :+ var 2 :* (m :* m :* s) :+ lit (pos 0) :* (m :* m :* m)) tt
+    ∙ ring (p .v0 ∷ p .v1 ∷ p .v2 ∷ p .m ∷ []) (sum :* lit (pos (2 ^ 14))) (polynomialE (four (var 0) (var 1) (var 2) (lit (pos 0))) (var 3) (lit (pos (2 ^ 14)))) tt
 
 mul-a : tie.Need-mul-a
 mul-a c = fits (known c) (var 2 :* var 3) tt
