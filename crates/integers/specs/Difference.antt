@@ -107,3 +107,6 @@ neg-*ℤ x y = rep-eq (rep-mul (rep-neg (rep x)) (rep y)) (rep-neg (rep-mul (rep
 
 pub one-*ℤ : (x : ℤ) → pos 1 *ℤ x ≡ x
 one-*ℤ x = rep-eq (rep-mul (rep (pos 1)) (rep x)) (rep x) (omega arith)
+
+pub *ℤ-one : (x : ℤ) → x *ℤ pos 1 ≡ x
+*ℤ-one x = rep-eq (rep-mul (rep x) (rep (pos 1))) (rep x) (omega arith)

@@ -11,6 +11,7 @@ use mir.Val.{SFits, toZ, ofZ}
 use mir.Facts.{toZ-ofZ, ofZ-toZ, toZ-pos, sfits-toZ, fits-ofZ}
 use Rattle.integers.specs.Difference.{ω-add, ω-minus}
 use Rattle.integers.specs.Order.{ωℤ}
+use Rattle.integers.specs.Range.{In}
 
 -- n itself below 2^15, else n − 2^16
 abbrev pub signed : ℕ → ℤ
@@ -19,6 +20,10 @@ signed n = toZ w16 n
 -- x itself where it is not negative, else x + 2^16
 abbrev pub bits : ℤ → ℕ
 bits x = ofZ w16 x
+
+-- a number is a sample
+abbrev pub IsSample : ℤ → Type 0
+IsSample x = In (negsuc 32767) (pos 32767) x
 
 -- ---- what these are
 pub signed-low : {n : ℕ} → n < 2 ^ 15 → signed n ≡ pos n

@@ -2,13 +2,13 @@
 --
 --     w-add (w-mul a b) c : Within (A * B + C) (x *ℤ y +ℤ z)      from  a : Within A x,  b : Within B y,  c : Within C z
 -- Range has the finer bounds lo ≤ z ≤ hi, and `w-in` and `in-w` lead from one to the other.
-use mathlib.Core.Path.{_≡_, refl, ap}
+use mathlib.Core.Path.{_≡_, refl, sym, ap, subst}
 use Prim.Native.Nat.{ℕ, zero, suc, _+_, _*_, _≤_}
 use native.Mathlib.Omega.{arith}
 use native.Mathlib.Nat.{le-refl, le-trans, le-of-eq, mul-le-mul}
 use lib.IntN.{ℤ, pos, negsuc, negℤ, natAbs, _+ℤ_, _-ℤ_, _*ℤ_}
 use lib.Signed.{_≤ℤ_}
-use Rattle.integers.specs.Difference.{up, dn, up-neg, dn-neg, Rep, rep, rep-add}
+use Rattle.integers.specs.Difference.{up, dn, neg-*ℤ, up-neg, dn-neg, Rep, rep, rep-add}
 use Rattle.integers.specs.Order.{ωℤ}
 
 pub record Within (B : ℕ) (z : ℤ) : Type 0 where
@@ -67,3 +67,12 @@ w-high {B} {z} h = omega (ωℤ, abs-is z, h .abs)
 pub w-between : {B : ℕ} {z : ℤ} → negℤ (pos B) ≤ℤ z → z ≤ℤ pos B → Within B z
 w-between {B} {z = pos n} h k = record { abs = omega ωℤ }
 w-between {B} {z = negsuc n} h k = record { abs = omega (ωℤ, up-neg (pos B), dn-neg (pos B)) }
+
+-- ---- a product of either sign
+pub w-turn : {B : ℕ} (x y : ℤ) → Within B (x *ℤ y) → Within B (negℤ x *ℤ y)
+w-turn {B} x y h = subst (Within B) (sym (neg-*ℤ x y)) (w-neg h)
+
+pub w-both : {B : ℕ} (x y : ℤ) → (x *ℤ y) ≤ℤ pos B → (negℤ x *ℤ y) ≤ℤ pos B → Within B (x *ℤ y)
+w-both {B} x y h l =
+    let n : negℤ (x *ℤ y) ≤ℤ pos B = subst (λ (z : ℤ). z ≤ℤ pos B) (neg-*ℤ x y) l in
+    w-between (omega (ωℤ, up-neg (x *ℤ y), dn-neg (x *ℤ y), up-neg (pos B), dn-neg (pos B))) h

@@ -1,59 +1,106 @@
--- What the card has at its register and window is the value of demand 2 at the position that the register stands for. Assumes nothing.
-use mathlib.Core.Path.{_≡_, refl, _∙_, ap}
-use mathlib.Core.List.{List, _∷_}
-use Prim.Native.Nat.{ℕ, suc, _+_, _-_}
+-- What ties the card's register and window to a position over joined samples: `evaluate` gives the value of demand 2. The converter cites these laws. Assumes nothing.
+use mathlib.Core.Path.{_≡_, refl, sym, _∙_, ap}
+use mathlib.Core.List.{List, [], _∷_, _++_}
+use Prim.Native.Nat.{ℕ, suc, _+_, _-_, _<_}
 use native.Mathlib.Omega.{arith}
 use native.Mathlib.Nat.{add-zero, add-suc}
-use lib.IntN.{ℤ, pos, negℤ}
-use lib.ListN.{getD}
-use Rattle.integers.specs.Range.{In}
-use Rattle.oscillator.specs.Position.{basepoint, fourteenBits}
+use lib.IntN.{ℤ, pos}
+use lib.ListN.{length, drop, length-append, length-drop, List·getD-append}
+use lib.Seq.{getD-drop, drop-drop, drop-append-le}
+use Rattle.integers.specs.Sample.{IsSample}
+use Rattle.oscillator.specs.Position.{basepoint, fraction, fourteenBits}
 use Rattle.oscillator.specs.Register.{registerOf}
 use Rattle.oscillator.proofs.Positions.{fraction-register}
-use Rattle.kernels.specs.Kernel.{Samples, Kernel, kernelOf}
-use Rattle.kernels.specs.Value.{rounded, output, clips, joinedAt, windowAt, value, valueClips, filterFraction, outputOf, clipOf}
+use Rattle.kernels.specs.Kernel.{Samples, places, Kernel, kernelOf, Agree}
+use Rattle.kernels.specs.Value.{rounded, output, clips, joinedAt, newest, windowAt, filterFraction, value, valueClips, outputOf, clipOf}
+use Rattle.kernels.specs.Distance.{CloseAt}
 use Rattle.kernels.proofs.Hold.{held-fits}
-use Rattle.kernels.proofs.Rows.{Agree, output-named, clips-named}
+use Rattle.kernels.proofs.Rows.{output-named, clips-named, close-named, reach-most, named-in-reach}
 
--- ---- which samples: x0, x1 and x2 are samples b, b + 1 and b + 2; xm is the one before b, and zero before the first; the window's newest is sample b + R
-pub joined-at : (xs : List ℤ) (b ahead : ℕ) → joinedAt xs b (suc ahead) ≡ getD xs (b + ahead) (pos 0)
+-- ---- joined samples: x0, x1 and x2 are samples b, b + 1 and b + 2; xm is the one before b, and zero before the first
+pub joined-at : (xs : List ℤ) (b ahead : ℕ) → joinedAt xs b (suc ahead) ≡ places xs (b + ahead)
 unfolding joinedAt
-joined-at xs b ahead = ap (λ (i : ℕ). getD (pos 0 ∷ xs) i (pos 0)) (add-suc b ahead)
+joined-at xs b ahead = ap (places (pos 0 ∷ xs)) (add-suc b ahead)
 
-pub joined-before : (xs : List ℤ) (b : ℕ) → joinedAt xs (suc b) 0 ≡ getD xs b (pos 0)
+pub joined-before : (xs : List ℤ) (b : ℕ) → joinedAt xs (suc b) 0 ≡ places xs b
 unfolding joinedAt
-joined-before xs b = ap (λ (i : ℕ). getD (pos 0 ∷ xs) i (pos 0)) (add-zero (suc b))
+joined-before xs b = ap (places (pos 0 ∷ xs)) (add-zero (suc b))
 
 pub joined-first : (xs : List ℤ) → joinedAt xs 0 0 ≡ pos 0
 unfolding joinedAt
 joined-first xs = refl
 
-pub window-newest : (k : ℕ) (window : List ℤ) → windowAt (kernelOf k) window (kernelOf k .reach + 1) ≡ getD window 3 (pos 0)
-unfolding windowAt
-window-newest k window = let e : kernelOf k .reach + 1 + 2 - kernelOf k .reach ≡ 3 = omega arith in ap (λ (i : ℕ). getD window i (pos 0)) e
+-- samples past b + R change nothing
+module _ (k : ℕ) (xs ys : List ℤ) where
+  abbrev κ : Kernel
+  κ = kernelOf k
 
--- ---- the register's m is the position's
+  joined-more : (b : ℕ) → b + κ .reach < length xs → Agree κ (joinedAt (xs ++ ys) b) (joinedAt xs b)
+  unfolding joinedAt
+  joined-more b h place e = List·getD-append (pos 0 ∷ xs) ys (pos 0) (b + place) (omega (arith, named-in-reach k place e))
+
+  module _ (q : ℕ) (h : basepoint (κ .nearest) q + κ .reach < length xs) where
+    pub value-more : value κ (xs ++ ys) q ≡ value κ xs q
+    unfolding value
+    value-more = output-named k (joined-more (basepoint (κ .nearest) q) h) (filterFraction κ q)
+
+    pub clips-more : valueClips κ (xs ++ ys) q ≡ valueClips κ xs q
+    unfolding valueClips
+    clips-more = clips-named k (joined-more (basepoint (κ .nearest) q) h) (filterFraction κ q)
+
+    pub close-more : (y : ℤ) → CloseAt κ xs q y → CloseAt κ (xs ++ ys) q y
+    unfolding CloseAt
+    close-more y c = close-named k (λ place e. sym (joined-more (basepoint (κ .nearest) q) h place e)) (fraction (κ .nearest) q) y c
+
+-- ---- the window: zeros at first, then the oldest goes and the new sample comes last
+pub newest-start : newest [] ≡ pos 0 ∷ pos 0 ∷ pos 0 ∷ pos 0 ∷ []
+unfolding newest
+newest-start = refl
+
+pub newest-next : (xs : List ℤ) (x : ℤ) → newest (xs ++ (x ∷ [])) ≡ drop 1 (newest xs) ++ (x ∷ [])
+unfolding newest
+newest-next xs x =
+    let z : List ℤ = pos 0 ∷ pos 0 ∷ pos 0 ∷ pos 0 ∷ xs in
+    ap (λ (n : ℕ). drop n (z ++ (x ∷ []))) (length-append xs (x ∷ []))
+    ∙ drop-append-le (length xs + 1) z (x ∷ []) (omega arith)
+    ∙ ap (λ (w : List ℤ). w ++ (x ∷ [])) (sym (drop-drop 1 (length xs) z))
+
+pub newest-length : (xs : List ℤ) → length (newest xs) ≡ 4
+unfolding newest
+newest-length xs = let e = length-drop (length xs) (pos 0 ∷ pos 0 ∷ pos 0 ∷ pos 0 ∷ xs) in omega (arith, e)
+
+-- when an output is due, with b + R + 1 samples joined, it holds the samples around b
+pub window-holds : (k : ℕ) (xs : List ℤ) (b : ℕ) → length xs ≡ b + kernelOf k .reach + 1 → Agree (kernelOf k) (windowAt (kernelOf k) (newest xs)) (joinedAt xs b)
+unfolding windowAt newest joinedAt
+window-holds k xs b h place e =
+    let z : List ℤ = pos 0 ∷ pos 0 ∷ pos 0 ∷ pos 0 ∷ xs in
+    let i : length xs + (place + 2 - kernelOf k .reach) ≡ suc (suc (suc (b + place))) = omega (arith, reach-most k) in
+    getD-drop (length xs) z (place + 2 - kernelOf k .reach) (pos 0) ∙ ap (places z) i
+
+-- ---- the card at Q modulo 2^32, with b + R + 1 samples taken, has the value of demand 2 at Q
 pub fraction-card : (κ : Kernel) (q : ℕ) → filterFraction κ (registerOf q) ≡ filterFraction κ q
 unfolding filterFraction
 fraction-card κ q = ap fourteenBits (fraction-register (κ .nearest) q)
 
--- ---- where the window holds the samples that the kernel names around the basepoint
-module _ (k : ℕ) (xs window : List ℤ) (q : ℕ) where
-  abbrev κ : Kernel
-  κ = kernelOf k
+module _ (k : ℕ) (xs : List ℤ) (q : ℕ) (h : length xs ≡ basepoint (kernelOf k .nearest) q + kernelOf k .reach + 1) where
+  abbrev κ′ : Kernel
+  κ′ = kernelOf k
 
   abbrev around : Samples
-  around = joinedAt xs (basepoint (κ .nearest) q)
+  around = joinedAt xs (basepoint (κ′ .nearest) q)
 
-  pub card-output : Agree κ (windowAt κ window) around → outputOf κ (registerOf q) window ≡ value κ xs q
+  alike : Agree κ′ (windowAt κ′ (newest xs)) around
+  alike = window-holds k xs (basepoint (κ′ .nearest) q) h
+
+  pub card-output : outputOf κ′ (registerOf q) (newest xs) ≡ value κ′ xs q
   unfolding outputOf value
-  card-output h = output-named k h (filterFraction κ (registerOf q)) ∙ ap (output κ around) (fraction-card κ q)
+  card-output = output-named k alike (filterFraction κ′ (registerOf q)) ∙ ap (output κ′ around) (fraction-card κ′ q)
 
-  pub card-clip : Agree κ (windowAt κ window) around → clipOf κ (registerOf q) window ≡ valueClips κ xs q
+  pub card-clip : clipOf κ′ (registerOf q) (newest xs) ≡ valueClips κ′ xs q
   unfolding clipOf valueClips
-  card-clip h = clips-named k h (filterFraction κ (registerOf q)) ∙ ap (clips κ around) (fraction-card κ q)
+  card-clip = clips-named k alike (filterFraction κ′ (registerOf q)) ∙ ap (clips κ′ around) (fraction-card κ′ q)
 
 -- ---- every output is a sample
-pub output-fits : (κ : Kernel) (x : Samples) (m : ℤ) → In (negℤ (pos 32768)) (pos 32767) (output κ x m)
+pub output-fits : (κ : Kernel) (x : Samples) (m : ℤ) → IsSample (output κ x m)
 unfolding output
 output-fits κ x m = held-fits (rounded κ x m)

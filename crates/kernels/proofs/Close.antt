@@ -6,32 +6,22 @@ use native.Mathlib.Omega.{arith}
 use native.Mathlib.Nat.{le-trans, le-of-eq, mul-pos}
 use lib.Dec.{lit<}
 use lib.IntN.{ℤ, pos, _-ℤ_, _*ℤ_}
-use Rattle.integers.specs.Ring.{Expr, var, lit, neg, _:+_, _:-_, _:*_, ring}
-use Rattle.integers.specs.Inequality.{goal≤, hyp≤, hyp<}
-use Rattle.integers.specs.Floor.{roundDiv, round-is}
-use Rattle.integers.specs.Within.{Within, abs-mul, w-lit, w-sub, w-mul, w-weaken, w-between}
+use Rattle.integers.specs.Ring.{Expr, var, lit, _:-_, _:*_, ring}
+use Rattle.integers.specs.Within.{Within, abs-mul, w-lit, w-sub, w-mul, w-weaken}
 use Rattle.oscillator.specs.Position.{basepoint, fraction}
 use Rattle.kernels.specs.Kernel.{Samples, Kernel, kernelOf}
 use Rattle.kernels.specs.Value.{numerator, unit, rounded, held, output, paper, joinedAt, filterFraction, value}
-use Rattle.kernels.specs.Distance.{jump, Close}
+use Rattle.kernels.specs.Distance.{jump, Close, CloseAt}
+use Rattle.kernels.proofs.Whole.{whole-half}
 use Rattle.kernels.proofs.Hold.{held-apart, held-times}
 use Rattle.kernels.proofs.Rows.{denominator-pos}
 use Rattle.kernels.proofs.Near.{near}
 
--- ---- rounding moves a value by at most a half, both sides times 2 and `unit`. Nothing else is used of the rounding
-pub rounding : (κ : Kernel) (x : ℕ → ℤ) (m : ℤ) → 0 < κ .denominator
+-- ---- rounding moves a value by at most a half, both sides times 2 and `unit`
+pub rounding : (κ : Kernel) (x : Samples) (m : ℤ) → 0 < κ .denominator
     → Within (unit κ (2 ^ 14)) (pos 2 *ℤ (rounded κ x m *ℤ pos (unit κ (2 ^ 14)) -ℤ numerator κ x m (pos (2 ^ 14))))
 unfolding rounded unit
-rounding κ x m h = half-off (numerator κ x m (pos (2 ^ 14))) (unit κ (2 ^ 14)) (mul-pos h (lit< tt))
-  where
-    half-off : (z : ℤ) (d : ℕ) → 0 < d → Within d (pos 2 *ℤ (roundDiv z d *ℤ pos d -ℤ z))
-    half-off z d h =
-        let ρ : List ℤ = z ∷ roundDiv z d ∷ pos d ∷ [] in
-        let two : Expr = lit (pos 2) in
-        let low = hyp≤ ρ (two :* var 1 :* var 2) (two :* var 0 :+ var 2) (round-is z d h .low) in
-        let high = hyp< ρ (two :* var 0) (two :* var 1 :* var 2 :+ var 2) (round-is z d h .high) in
-        let off : Expr = two :* (var 1 :* var 2 :- var 0) in
-        w-between (goal≤ ρ (neg (var 2)) off (omega arith)) (goal≤ ρ off (var 2) (omega arith))
+rounding κ x m h = whole-half (numerator κ x m (pos (2 ^ 14))) (unit κ (2 ^ 14)) (mul-pos h (lit< tt))
 
 -- ---- from the rounded value at m/2^14 to the exact value at f/2^32: through the exact value at m/2^14
 -- R is the rounded value, N and Z are the two exact ones, d the denominator
@@ -75,7 +65,6 @@ module _ (k : ℕ) (x : Samples) (q : ℕ) where
       (w-weaken (le-trans (le-of-eq (sym (abs-mul K₂ (R *ℤ pos S -ℤ Z)))) (before-holding .abs)) (w-mul (w-lit K₂) (held-apart S (R *ℤ pos S) Z)))
 
 -- the value of demand 2 at a position over joined samples
-pub value-close : (k : ℕ) (xs : List ℤ) (q : ℕ) → let κ : Kernel = kernelOf k in
-    Close κ (joinedAt xs (basepoint (κ .nearest) q)) (fraction (κ .nearest) q) (value κ xs q)
-unfolding value
+pub value-close : (k : ℕ) (xs : List ℤ) (q : ℕ) → CloseAt (kernelOf k) xs q (value (kernelOf k) xs q)
+unfolding CloseAt value
 value-close k xs q = output-close k (joinedAt xs (basepoint (kernelOf k .nearest) q)) q

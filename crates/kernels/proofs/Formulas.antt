@@ -1,10 +1,10 @@
--- The coefficient table is what is printed: in document 01 the value at u of each kernel, in source document 002 the coefficients of kernels 2 and 3. Assumes nothing.
+-- The coefficient table is what is printed: in document 01 the value at u of each kernel, in source document 002 the coefficients of kernels 0, 2 and 3. Assumes nothing.
 use mathlib.Core.Path.{_≡_, refl}
 use mathlib.Core.List.{List, [], _∷_}
 use Prim.Native.Nat.{ℕ}
 use lib.IntN.{ℤ, pos, negℤ, _+ℤ_, _-ℤ_, _*ℤ_}
 use Rattle.integers.specs.Ring.{lit, neg, _:+_, _:-_, _:*_, _:=_, identity}
-use Rattle.kernels.specs.Kernel.{Kernel, kernelOf, four}
+use Rattle.kernels.specs.Kernel.{four, −, Kernel, kernelOf}
 use Rattle.kernels.specs.Value.{column, polynomial, numerator}
 use Rattle.kernels.proofs.Rows.{numeratorE}
 
@@ -71,15 +71,17 @@ taps κ place = κ .coefficient 0 place ∷ κ .coefficient 1 place ∷ κ .coef
 abbrev printed : ℤ → ℤ → ℤ → ℤ → List ℤ
 printed a b c d = a ∷ b ∷ c ∷ d ∷ []
 
-abbrev − : ℕ → ℤ
-− n = negℤ (pos n)
-
 pub record Tables : Type 0 where
   -- table I, times 6, from i = −2 to 1
   pub cubic-2 : taps (kernelOf 3) 3 ≡ printed (pos 0) (− 1) (pos 0) (pos 1)
   pub cubic-1 : taps (kernelOf 3) 2 ≡ printed (pos 0) (pos 6) (pos 3) (− 3)
   pub cubic-0 : taps (kernelOf 3) 1 ≡ printed (pos 6) (− 3) (− 6) (pos 3)
   pub cubic+1 : taps (kernelOf 3) 0 ≡ printed (pos 0) (− 2) (pos 3) (− 1)
+  -- table II at alpha = 0, which is the linear interpolator
+  pub linear-2 : taps (kernelOf 0) 3 ≡ printed (pos 0) (pos 0) (pos 0) (pos 0)
+  pub linear-1 : taps (kernelOf 0) 2 ≡ printed (pos 0) (pos 1) (pos 0) (pos 0)
+  pub linear-0 : taps (kernelOf 0) 1 ≡ printed (pos 1) (− 1) (pos 0) (pos 0)
+  pub linear+1 : taps (kernelOf 0) 0 ≡ printed (pos 0) (pos 0) (pos 0) (pos 0)
   -- table II at alpha = 1/2, times 2
   pub parabolic-2 : taps (kernelOf 2) 3 ≡ printed (pos 0) (− 1) (pos 1) (pos 0)
   pub parabolic-1 : taps (kernelOf 2) 2 ≡ printed (pos 0) (pos 3) (− 1) (pos 0)
@@ -89,4 +91,17 @@ pub record Tables : Type 0 where
 pub tables : Tables
 unfolding kernelOf
 tables =
-    record { cubic-2 = refl; cubic-1 = refl; cubic-0 = refl; cubic+1 = refl; parabolic-2 = refl; parabolic-1 = refl; parabolic-0 = refl; parabolic+1 = refl }
+    record {
+      cubic-2 = refl;
+      cubic-1 = refl;
+      cubic-0 = refl;
+      cubic+1 = refl;
+      linear-2 = refl;
+      linear-1 = refl;
+      linear-0 = refl;
+      linear+1 = refl;
+      parabolic-2 = refl;
+      parabolic-1 = refl;
+      parabolic-0 = refl;
+      parabolic+1 = refl;
+    }

@@ -9,8 +9,63 @@ use lib.Signed.{_≤ℤ_, _<ℤ_, ltZ, leZ-yes, ltZ-yes, ltZ-no, clashℤ}
 use Rattle.integers.specs.Difference.{ω-add, ω-neg, ω-minus}
 use Rattle.integers.specs.Order.{ωℤ, ≤ℤ-antisym, *ℤ-mono, nn-pos}
 use Rattle.integers.specs.Within.{Within, w-between, abs-is}
-use Rattle.integers.specs.Range.{In, minZ, maxZ, min-max}
+use Rattle.integers.specs.Range.{minZ, maxZ, min-max}
+use Rattle.integers.specs.Sample.{IsSample}
 use Rattle.kernels.specs.Value.{held, outside}
+
+-- ---- what is held: a sample, a number below, a number above
+pub held-in : {z : ℤ} → IsSample z → held 1 z ≡ z
+unfolding held
+held-in {z} h =
+    ap (maxZ (negℤ (pos 32768))) (min-max (pos 32767) z (λ m n. m ≡ z) (λ i. ≤ℤ-antisym i (h .high)) (λ i. refl))
+    ∙ min-max (negℤ (pos 32768)) z (λ m n. n ≡ z) (λ i. refl) (λ i. ≤ℤ-antisym (h .low) i)
+
+pub held-low : {z : ℤ} → z <ℤ negℤ (pos 32768) → held 1 z ≡ negℤ (pos 32768)
+unfolding held
+held-low {z} h =
+    ap (maxZ (negℤ (pos 32768))) (min-max (pos 32767) z (λ m n. m ≡ z) (λ i. absurd (omega ωℤ)) (λ i. refl))
+    ∙ min-max (negℤ (pos 32768)) z (λ m n. n ≡ negℤ (pos 32768)) (λ i. clashℤ h i) (λ i. refl)
+
+pub held-high : {z : ℤ} → pos 32767 <ℤ z → held 1 z ≡ pos 32767
+unfolding held
+held-high {z} h = ap (maxZ (negℤ (pos 32768))) (min-max (pos 32767) z (λ m n. m ≡ pos 32767) (λ i. refl) (λ i. clashℤ h i))
+
+-- ---- what counts as a clip: what holds of the three cases holds of the test
+sides : (z : ℤ) (P : Bool → Type 0) → (z <ℤ negℤ (pos 32768) → P true) → (pos 32767 <ℤ z → P true) → (IsSample z → P false) → P (outside z)
+unfolding outside
+sides z P below above within = go (ltZ z (negℤ (pos 32768))) refl (ltZ (pos 32767) z) refl
+  where
+    go : (b : Bool) → ltZ z (negℤ (pos 32768)) ≡ b → (c : Bool) → ltZ (pos 32767) z ≡ c → P (b || c)
+    go true e c d = below (ltZ-yes (subst T (sym e) tt))
+    go false e true d = above (ltZ-yes (subst T (sym d) tt))
+    go false e false d = within (record { low = ltZ-no (subst (λ (b : Bool). T (not b)) (sym e) tt); high = ltZ-no (subst (λ (b : Bool). T (not b)) (sym d) tt) })
+
+pub outside-in : {z : ℤ} → IsSample z → outside z ≡ false
+outside-in {z} h = sides z (λ b. b ≡ false) (λ l. clashℤ l (h .low)) (λ l. clashℤ l (h .high)) (λ i. refl)
+
+pub outside-low : {z : ℤ} → z <ℤ negℤ (pos 32768) → outside z ≡ true
+outside-low {z} h = sides z (λ b. b ≡ true) (λ l. refl) (λ l. refl) (λ i. clashℤ h (i .low))
+
+pub outside-high : {z : ℤ} → pos 32767 <ℤ z → outside z ≡ true
+outside-high {z} h = sides z (λ b. b ≡ true) (λ l. refl) (λ l. refl) (λ i. clashℤ h (i .high))
+
+-- in 16 bits always, and another number exactly where it counts as a clip
+pub held-fits : (z : ℤ) → IsSample (held 1 z)
+held-fits z =
+    sides z (λ b. IsSample (held 1 z))
+    (λ l. rw (held-low l) (record { low = leZ-yes tt; high = leZ-yes tt }))
+    (λ l. rw (held-high l) (record { low = leZ-yes tt; high = leZ-yes tt }))
+    (λ i. rw (held-in i) i)
+
+pub inside-same : (z : ℤ) → outside z ≡ false → held 1 z ≡ z
+inside-same z = sides z (λ b. b ≡ false → held 1 z ≡ z) (λ l e. absurd (subst T e tt)) (λ l e. absurd (subst T e tt)) (λ i e. held-in i)
+
+pub outside-moved : (z : ℤ) → outside z ≡ true → held 1 z ≢ z
+outside-moved z =
+    sides z (λ b. b ≡ true → held 1 z ≢ z)
+    (λ l e same. let s : z ≡ negℤ (pos 32768) = sym same ∙ held-low l in omega ωℤ)
+    (λ l e same. let s : z ≡ pos 32767 = sym same ∙ held-high l in omega ωℤ)
+    (λ i e. absurd (subst T (sym e) tt))
 
 -- ---- what is at most B more stays so
 min-near : (c x y : ℤ) (B : ℕ) → x ≤ℤ (y +ℤ pos B) → minZ c x ≤ℤ (minZ c y +ℤ pos B)
@@ -62,57 +117,3 @@ pub held-times : (x : ℤ) (S : ℕ) → held S (x *ℤ pos S) ≡ held 1 x *ℤ
 unfolding held
 held-times x S =
     ap (maxZ (negℤ (pos 32768) *ℤ pos S)) (min-times (pos 32767) x S) ∙ max-times (negℤ (pos 32768)) (minZ (pos 32767) x) S
-
--- ---- what is held: a number in the range, one below it, one above it
-pub held-in : {z : ℤ} → In (negℤ (pos 32768)) (pos 32767) z → held 1 z ≡ z
-unfolding held
-held-in {z} h =
-    ap (maxZ (negℤ (pos 32768))) (min-max (pos 32767) z (λ m n. m ≡ z) (λ i. ≤ℤ-antisym i (h .high)) (λ i. refl))
-    ∙ min-max (negℤ (pos 32768)) z (λ m n. n ≡ z) (λ i. refl) (λ i. ≤ℤ-antisym (h .low) i)
-
-pub held-low : {z : ℤ} → z <ℤ negℤ (pos 32768) → held 1 z ≡ negℤ (pos 32768)
-unfolding held
-held-low {z} h =
-    ap (maxZ (negℤ (pos 32768))) (min-max (pos 32767) z (λ m n. m ≡ z) (λ i. absurd (omega ωℤ)) (λ i. refl))
-    ∙ min-max (negℤ (pos 32768)) z (λ m n. n ≡ negℤ (pos 32768)) (λ i. clashℤ h i) (λ i. refl)
-
-pub held-high : {z : ℤ} → pos 32767 <ℤ z → held 1 z ≡ pos 32767
-unfolding held
-held-high {z} h = ap (maxZ (negℤ (pos 32768))) (min-max (pos 32767) z (λ m n. m ≡ pos 32767) (λ i. refl) (λ i. clashℤ h i))
-
--- ---- what counts as a clip: what holds of the three cases holds of the test
-sides : (z : ℤ) (P : Bool → Type 0) → (z <ℤ negℤ (pos 32768) → P true) → (pos 32767 <ℤ z → P true) → (In (negℤ (pos 32768)) (pos 32767) z → P false) → P (outside z)
-unfolding outside
-sides z P below above within = go (ltZ z (negℤ (pos 32768))) refl (ltZ (pos 32767) z) refl
-  where
-    go : (b : Bool) → ltZ z (negℤ (pos 32768)) ≡ b → (c : Bool) → ltZ (pos 32767) z ≡ c → P (b || c)
-    go true e c d = below (ltZ-yes (subst T (sym e) tt))
-    go false e true d = above (ltZ-yes (subst T (sym d) tt))
-    go false e false d = within (record { low = ltZ-no (subst (λ (b : Bool). T (not b)) (sym e) tt); high = ltZ-no (subst (λ (b : Bool). T (not b)) (sym d) tt) })
-
-pub outside-in : {z : ℤ} → In (negℤ (pos 32768)) (pos 32767) z → outside z ≡ false
-outside-in {z} h = sides z (λ b. b ≡ false) (λ l. clashℤ l (h .low)) (λ l. clashℤ l (h .high)) (λ i. refl)
-
-pub outside-low : {z : ℤ} → z <ℤ negℤ (pos 32768) → outside z ≡ true
-outside-low {z} h = sides z (λ b. b ≡ true) (λ l. refl) (λ l. refl) (λ i. clashℤ h (i .low))
-
-pub outside-high : {z : ℤ} → pos 32767 <ℤ z → outside z ≡ true
-outside-high {z} h = sides z (λ b. b ≡ true) (λ l. refl) (λ l. refl) (λ i. clashℤ h (i .high))
-
--- in 16 bits always, and another number exactly where it counts as a clip
-pub held-fits : (z : ℤ) → In (negℤ (pos 32768)) (pos 32767) (held 1 z)
-held-fits z =
-    sides z (λ b. In (negℤ (pos 32768)) (pos 32767) (held 1 z))
-    (λ l. rw (held-low l) (record { low = leZ-yes tt; high = leZ-yes tt }))
-    (λ l. rw (held-high l) (record { low = leZ-yes tt; high = leZ-yes tt }))
-    (λ i. rw (held-in i) i)
-
-pub inside-same : (z : ℤ) → outside z ≡ false → held 1 z ≡ z
-inside-same z = sides z (λ b. b ≡ false → held 1 z ≡ z) (λ l e. absurd (subst T e tt)) (λ l e. absurd (subst T e tt)) (λ i e. held-in i)
-
-pub outside-moved : (z : ℤ) → outside z ≡ true → held 1 z ≢ z
-outside-moved z =
-    sides z (λ b. b ≡ true → held 1 z ≢ z)
-    (λ l e same. let s : z ≡ negℤ (pos 32768) = sym same ∙ held-low l in omega ωℤ)
-    (λ l e same. let s : z ≡ pos 32767 = sym same ∙ held-high l in omega ωℤ)
-    (λ i e. absurd (subst T (sym e) tt))

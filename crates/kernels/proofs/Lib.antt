@@ -1,5 +1,6 @@
 pub mod Formulas
 pub mod Rows
+pub mod Whole
 pub mod Hold
 pub mod Card
 pub mod Near

@@ -8,14 +8,15 @@ use lib.Signed.{_≤ℤ_, leZ-yes}
 use Rattle.integers.specs.Ring.{Expr, var, lit, _:+_, _:-_, _:*_}
 use Rattle.integers.specs.Order.{nn-pos, nn-add, nn-mul, nn-sub}
 use Rattle.integers.specs.Inequality.{by-nn}
-use Rattle.integers.specs.Floor.{round-mono}
 use Rattle.integers.specs.Range.{In, weaken}
+use Rattle.integers.specs.Sample.{IsSample}
 use Rattle.oscillator.proofs.Positions.{fourteen-before}
-use Rattle.kernels.specs.Kernel.{kernelOf}
-use Rattle.kernels.specs.Value.{column, polynomial, numerator, unit, rounded, filterFraction}
+use Rattle.kernels.specs.Kernel.{Samples, kernelOf}
+use Rattle.kernels.specs.Value.{column, polynomial, numerator, unit, nearestWhole, rounded, filterFraction}
 use Rattle.kernels.proofs.Rows.{numeratorE}
+use Rattle.kernels.proofs.Whole.{whole-mono}
 
-module _ (x : ℕ → ℤ) (m l : ℤ) (h : In (pos 0) (pos (2 ^ 14)) m) where
+module _ (x : Samples) (m l : ℤ) (h : In (pos 0) (pos (2 ^ 14)) m) where
   abbrev ρ : List ℤ
   ρ = x 0 ∷ x 1 ∷ x 2 ∷ x 3 ∷ m ∷ l ∷ []
 
@@ -37,22 +38,15 @@ module _ (x : ℕ → ℤ) (m l : ℤ) (h : In (pos 0) (pos (2 ^ 14)) m) where
   unfolding kernelOf numerator polynomial column
   at-most p q = by-nn ρ value (var 5 :* lit (pos (2 ^ 42))) (mean (var 5 :- var 1) (var 5 :- var 2)) tt (mean-nn (nn-sub p) (nn-sub q))
 
-abbrev lowest : ℤ
-lowest = negsuc 32767
-
-abbrev highest : ℤ
-highest = pos 32767
-
-linear-in : (x : ℕ → ℤ) (register : ℕ) → In lowest highest (x 1) → In lowest highest (x 2) → In lowest highest (rounded (kernelOf 0) x (filterFraction (kernelOf 0) register))
-unfolding kernelOf rounded unit filterFraction
+linear-in : (x : Samples) (register : ℕ) → IsSample (x 1) → IsSample (x 2) → IsSample (rounded (kernelOf 0) x (filterFraction (kernelOf 0) register))
+unfolding kernelOf nearestWhole rounded unit filterFraction
 linear-in x register p q =
     let m : ℤ = filterFraction (kernelOf 0) register in
     let h : In (pos 0) (pos (2 ^ 14)) m = weaken (leZ-yes tt) (leZ-yes tt) (fourteen-before register) in
     record {
-      low = round-mono (2 ^ 42) (lit< tt) (at-least x m lowest h (p .low) (q .low));
-      high = round-mono (2 ^ 42) (lit< tt) (at-most x m highest h (p .high) (q .high));
+      low = whole-mono (2 ^ 42) (lit< tt) (at-least x m (negsuc 32767) h (p .low) (q .low));
+      high = whole-mono (2 ^ 42) (lit< tt) (at-most x m (pos 32767) h (p .high) (q .high));
     }
 
-pub nothing-held : (k : ℕ) (x : ℕ → ℤ) (register : ℕ) → k ≡ 0 → In lowest highest (x 1) → In lowest highest (x 2)
-    → In lowest highest (rounded (kernelOf k) x (filterFraction (kernelOf k) register))
-nothing-held k x register e p q = subst (λ (k : ℕ). In lowest highest (rounded (kernelOf k) x (filterFraction (kernelOf k) register))) (sym e) (linear-in x register p q)
+pub nothing-held : (k : ℕ) (x : Samples) (register : ℕ) → k ≡ 0 → IsSample (x 1) → IsSample (x 2) → IsSample (rounded (kernelOf k) x (filterFraction (kernelOf k) register))
+nothing-held k x register e p q = subst (λ (k : ℕ). IsSample (rounded (kernelOf k) x (filterFraction (kernelOf k) register))) (sym e) (linear-in x register p q)

@@ -9,14 +9,13 @@ use lib.Dec.{T, leb, eqb, leb→le, eqb→eq}
 use lib.IntN.{ℤ, pos, negℤ, natAbs, _+ℤ_, _-ℤ_, _*ℤ_}
 use lib.Signed.{_≤ℤ_}
 use mir.Facts.{and-yes}
-use Rattle.integers.specs.Difference.{neg-*ℤ, ω-neg}
 use Rattle.integers.specs.Ring.{Expr, var, lit, neg, _:+_, _:-_, _:*_, eval, ring}
-use Rattle.integers.specs.Order.{ωℤ, ≤ℤ-trans, <ℤ-weak, lt-or-le, nn-pos, nn-sub, nn-mul}
+use Rattle.integers.specs.Order.{≤ℤ-trans, <ℤ-weak, lt-or-le, nn-pos, nn-sub, nn-mul}
 use Rattle.integers.specs.Inequality.{goal≤, hyp≤, hyp<, by-nn}
-use Rattle.integers.specs.Within.{Within, abs-zero, w-lit, w-neg, w-add, w-mul, w-weaken, w-high, w-between}
+use Rattle.integers.specs.Within.{Within, abs-zero, w-lit, w-add, w-mul, w-weaken, w-high, w-turn, w-both}
 use Rattle.oscillator.specs.Position.{fraction, fourteenBits}
 use Rattle.oscillator.proofs.Positions.{fraction-from, fraction-to, fourteen-is}
-use Rattle.kernels.specs.Kernel.{Samples, Kernel, kernelOf}
+use Rattle.kernels.specs.Kernel.{Samples, Kernel, kernelOf, names}
 use Rattle.kernels.specs.Value.{column, polynomial, numerator, unit, filterFraction}
 use Rattle.kernels.specs.Distance.{gap, jump}
 use Rattle.kernels.proofs.Rows.{of-all, polynomialE}
@@ -26,13 +25,13 @@ use Rattle.kernels.proofs.Slope.{slope, rises}
 abbrev sum : (ℕ → ℤ) → ℤ
 sum w = w 0 +ℤ w 1 +ℤ w 2 +ℤ w 3
 
--- the weight of the difference of the samples at a place and the next
-abbrev weight : (ℕ → ℤ) → ℕ → ℤ
-weight w zero = negℤ (w 0)
-weight w (suc zero) = w 2 +ℤ w 3
-weight w (suc (suc place)) = w 3
+-- how much the difference of the samples at a place and the next counts
+abbrev pull : (ℕ → ℤ) → ℕ → ℤ
+pull w zero = negℤ (w 0)
+pull w (suc zero) = w 2 +ℤ w 3
+pull w (suc (suc place)) = w 3
 
-by-parts : (w x : ℕ → ℤ) → sum w ≡ pos 0 → column w x ≡ weight w 0 *ℤ (x 1 -ℤ x 0) +ℤ weight w 1 *ℤ (x 2 -ℤ x 1) +ℤ weight w 2 *ℤ (x 3 -ℤ x 2)
+by-parts : (w x : ℕ → ℤ) → sum w ≡ pos 0 → column w x ≡ pull w 0 *ℤ (x 1 -ℤ x 0) +ℤ pull w 1 *ℤ (x 2 -ℤ x 1) +ℤ pull w 2 *ℤ (x 3 -ℤ x 2)
 unfolding column
 by-parts w x e =
     let ρ : List ℤ = w 0 ∷ w 1 ∷ w 2 ∷ w 3 ∷ x 0 ∷ x 1 ∷ x 2 ∷ x 3 ∷ [] in
@@ -44,14 +43,14 @@ by-parts w x e =
 -- ---- the test of a row and of K: over both halves of its fractions the slope weighs only differences that count in D, and these at most 2^14/K in all
 -- the difference at a place counts in D, or has no weight
 abbrev counts : Kernel → (ℕ → ℤ) → ℕ → Bool
-counts κ w place = (κ .names place && κ .names (suc place)) || eqb (natAbs (weight w place)) 0
+counts κ w place = (names κ place && names κ (suc place)) || eqb (natAbs (pull w place)) 0
 
-abbrev weights : (ℕ → ℤ) → ℕ
-weights w = natAbs (weight w 0) + natAbs (weight w 1) + natAbs (weight w 2)
+abbrev pulls : (ℕ → ℤ) → ℕ
+pulls w = natAbs (pull w 0) + natAbs (pull w 1) + natAbs (pull w 2)
 
 -- w has the factors 4 (of `slope`) and denominator
 abbrev gentle : Kernel → ℕ → (ℕ → ℤ) → Bool
-gentle κ K w = eqb (natAbs (sum w)) 0 && (counts κ w 0 && (counts κ w 1 && (counts κ w 2 && leb (K * weights w) (2 ^ 16 * κ .denominator))))
+gentle κ K w = eqb (natAbs (sum w)) 0 && (counts κ w 0 && (counts κ w 1 && (counts κ w 2 && leb (K * pulls w) (2 ^ 16 * κ .denominator))))
 
 -- over the half unit from a/2
 abbrev gentle-from : Kernel → ℕ → ℤ → Bool
@@ -61,16 +60,16 @@ gentle-from κ K a = gentle κ K (slope κ a a) && (gentle κ K (slope κ a (a +
 abbrev start : Bool → ℤ
 start nearest = cond nearest (negℤ (pos 1)) (pos 0)
 
-abbrev tame : Kernel → ℕ → Bool
+abbrev pub tame : Kernel → ℕ → Bool
 tame κ K = gentle-from κ K (start (κ .nearest)) && gentle-from κ K (start (κ .nearest) +ℤ pos 1)
 
 -- the four pass with their K, and fail with one more
 tamed : (k : ℕ) → T (tame (kernelOf k) (kernelOf k .K))
-unfolding kernelOf
+unfolding kernelOf names
 tamed = of-all (λ κ. T (tame κ (κ .K))) tt tt tt tt
 
-largest : (k : ℕ) → T (not (tame (kernelOf k) (suc (kernelOf k .K))))
-unfolding kernelOf
+pub largest : (k : ℕ) → T (not (tame (kernelOf k) (suc (kernelOf k .K))))
+unfolding kernelOf names
 largest = of-all (λ κ. T (not (tame κ (suc (κ .K))))) tt tt tt tt
 
 -- ---- the slope, times K, is at most 2^16 times the denominator and D
@@ -78,7 +77,7 @@ weighed : (b : Bool) (n g D : ℕ) → cond b g 0 ≤ D → T (b || eqb n 0) →
 weighed true n g D h t = mul-le-mul-left n h
 weighed false n g D h t = let z : n * g ≡ 0 * g = ap (λ (k : ℕ). k * g) (eqb→eq n 0 t) in omega arith
 
-module _ (κ : Kernel) (K : ℕ) (x : ℕ → ℤ) where
+module _ (κ : Kernel) (K : ℕ) (x : Samples) where
   gentle-within : (w : ℕ → ℤ) → T (gentle κ K w) → Within (2 ^ 16 * (κ .denominator * jump κ x)) (pos K *ℤ column w x)
   unfolding jump
   gentle-within w t =
@@ -87,19 +86,19 @@ module _ (κ : Kernel) (K : ℕ) (x : ℕ → ℤ) where
       let t₂ = and-yes (counts κ w 0) _ (t₁ .1) in
       let t₃ = and-yes (counts κ w 1) _ (t₂ .1) in
       let t₄ = and-yes (counts κ w 2) _ (t₃ .1) in
-      let size : ℕ → ℕ = λ place. natAbs (weight w place) in
+      let size : ℕ → ℕ = λ place. natAbs (pull w place) in
       let step : ℕ → ℕ = λ place. natAbs (x (suc place) -ℤ x place) in
       let at : (place : ℕ) → gap κ x place ≤ D → T (counts κ w place) → size place * step place ≤ size place * D
-      = λ place. weighed (κ .names place && κ .names (suc place)) (size place) (step place) D in
+      = λ place. weighed (names κ place && names κ (suc place)) (size place) (step place) D in
       let h₀ = at 0 (omega arith) (t₂ .0) in
       let h₁ = at 1 (omega arith) (t₃ .0) in
       let h₂ = at 2 (omega arith) (t₄ .0) in
-      let l = leb→le (K * weights w) (2 ^ 16 * κ .denominator) (t₄ .1) in
-      let each : Within (weights w * D) (column w x)
-      = subst (Within (weights w * D)) (sym (by-parts w x (abs-zero (sum w) (eqb→eq (natAbs (sum w)) 0 (t₁ .0)))))
+      let l = leb→le (K * pulls w) (2 ^ 16 * κ .denominator) (t₄ .1) in
+      let each : Within (pulls w * D) (column w x)
+      = subst (Within (pulls w * D)) (sym (by-parts w x (abs-zero (sum w) (eqb→eq (natAbs (sum w)) 0 (t₁ .0)))))
       (w-weaken (omega arith)
-      (w-add (w-add (w-mul (w-lit (weight w 0)) (w-lit (x 1 -ℤ x 0))) (w-mul (w-lit (weight w 1)) (w-lit (x 2 -ℤ x 1))))
-      (w-mul (w-lit (weight w 2)) (w-lit (x 3 -ℤ x 2))))) in
+      (w-add (w-add (w-mul (w-lit (pull w 0)) (w-lit (x 1 -ℤ x 0))) (w-mul (w-lit (pull w 1)) (w-lit (x 2 -ℤ x 1))))
+      (w-mul (w-lit (pull w 2)) (w-lit (x 3 -ℤ x 2))))) in
       w-weaken (omega (arith, mul-le-mul-right D l)) (w-mul (w-lit (pos K)) each)
 
 -- ---- 14 bits of a fraction: m/2^14 is in the same half unit, and less than 2^-14 below
@@ -132,23 +131,15 @@ small E g h =
     by-nn (pos E ∷ g ∷ []) (lit (pos (2 ^ 16)) :* var 0 :* (var 1 :* (lit (pos (2 ^ 31)) :* lit (pos (2 ^ 31))))) (lit (pos (2 ^ 96)) :* var 0)
     (lit (pos (2 ^ 78)) :* (var 0 :* (lit (pos (2 ^ 18)) :- var 1))) tt (nn-mul (nn-pos (2 ^ 78)) (nn-mul (nn-pos E) (nn-sub h)))
 
-w-turn : {B : ℕ} (K z : ℤ) → Within B (K *ℤ z) → Within B (negℤ K *ℤ z)
-w-turn {B} K z h = subst (Within B) (sym (neg-*ℤ K z)) (w-neg h)
-
-w-both : {B : ℕ} (K z : ℤ) → (K *ℤ z) ≤ℤ pos B → (negℤ K *ℤ z) ≤ℤ pos B → Within B (K *ℤ z)
-w-both {B} K z h l =
-    let n : negℤ (K *ℤ z) ≤ℤ pos B = subst (λ (y : ℤ). y ≤ℤ pos B) (neg-*ℤ K z) l in
-    w-between (omega (ωℤ, ω-neg (K *ℤ z), ω-neg (pos B))) h
-
 -- n and s with a factor in common
-homogeneous : (κ : Kernel) (x : ℕ → ℤ) (n s e : ℤ) → numerator κ x (n *ℤ e) (s *ℤ e) ≡ numerator κ x n s *ℤ (e *ℤ e *ℤ e)
+homogeneous : (κ : Kernel) (x : Samples) (n s e : ℤ) → numerator κ x (n *ℤ e) (s *ℤ e) ≡ numerator κ x n s *ℤ (e *ℤ e *ℤ e)
 unfolding numerator polynomial
 homogeneous κ x n s e =
     let v : ℕ → ℤ = λ power. column (κ .coefficient power) x in
     let at : Expr → Expr → Expr = polynomialE (λ power. var (3 + power)) in
     ring (n ∷ s ∷ e ∷ v 0 ∷ v 1 ∷ v 2 ∷ v 3 ∷ []) (at (var 0 :* var 2) (var 1 :* var 2)) (at (var 0) (var 1) :* (var 2 :* var 2 :* var 2)) tt
 
-module _ (κ : Kernel) (K : ℕ) (x : ℕ → ℤ) where
+module _ (κ : Kernel) (K : ℕ) (x : Samples) where
   -- the change of the value from m/2^14 to f/2^32, times `unit`
   abbrev moved : ℤ → ℤ
   moved f = numerator κ x f (pos (2 ^ 32)) -ℤ numerator κ x (fourteenBits f *ℤ pos (2 ^ 18)) (pos (2 ^ 32))

@@ -3,16 +3,17 @@
 -- Each is an equation of expressions that hold the row's numbers; `tt` says that antt has computed, for each of the four kernels, that both sides agree.
 use mathlib.Core.Path.{_≡_, refl, sym, _∙_, ap, subst}
 use mathlib.Core.Bool.{Bool, true, false, not, cond, _&&_, _||_}
-use mathlib.Core.List.{List, [], _∷_}
-use Prim.Native.Nat.{ℕ, zero, suc, _+_, _^_, max, _≤_, _<_}
+use mathlib.Core.List.{List, [], _∷_, map}
+use Prim.Native.Nat.{ℕ, zero, suc, _+_, _*_, _^_, max, _≤_, _<_}
 use native.Mathlib.Omega.{arith}
 use native.Mathlib.Nat.{one-mul, pow-zero, pow-suc}
-use lib.Dec.{T, leb, ltb, leb→le, ltb→lt, lit<}
+use lib.Dec.{T, leb, ltb, leb→le, ltb→lt}
 use lib.IntN.{ℤ, pos, natAbs, _-ℤ_, _*ℤ_}
 use Rattle.integers.specs.Ring.{Expr, var, lit, _:+_, _:*_, Eqn, _:=_, Check, Holds, at, eval, ring}
-use Rattle.kernels.specs.Kernel.{Kernel, kernelOf, four}
+use Rattle.integers.specs.Within.{Within}
+use Rattle.kernels.specs.Kernel.{Samples, four, Kernel, kernelOf, names, Agree}
 use Rattle.kernels.specs.Value.{column, polynomial, numerator, unit, rounded, held, output, outside, clips, paper}
-use Rattle.kernels.specs.Distance.{gap, jump}
+use Rattle.kernels.specs.Distance.{gap, jump, Close}
 
 -- what holds of the four holds of the kernel with any number
 pub of-all : (P : Kernel → Type 0) → P (kernelOf 0) → P (kernelOf 1) → P (kernelOf 2) → P (kernelOf 3) → (k : ℕ) → P (kernelOf k)
@@ -50,7 +51,7 @@ unit-is : (κ : Kernel) (s : ℕ) → pos (κ .denominator) *ℤ (pos s *ℤ pos
 unfolding unit
 unit-is κ s = rw (pow-suc s 2, pow-suc s 1, pow-suc s 0, pow-zero s, one-mul s)
 
-module _ (k : ℕ) (x : ℕ → ℤ) (s : ℕ) where
+module _ (k : ℕ) (x : Samples) (s : ℕ) where
   -- at u = 0 the value is x0
   pub starts-at-x0 : numerator (kernelOf k) x (pos 0) (pos s) ≡ x 1 *ℤ pos (unit (kernelOf k) s)
   unfolding kernelOf numerator polynomial column
@@ -72,13 +73,35 @@ constant k c n s =
     row-law (λ κ. numeratorE κ (λ place. var 0) (var 1) (var 2) := var 0 :* unitE κ (var 2)) tt tt tt tt k (c ∷ n ∷ pos s ∷ [])
     ∙ ap (λ z. c *ℤ z) (unit-is (kernelOf k) s)
 
+-- by place: each sample has its weight at u, the value of its own coefficients
+pub by-place : (κ : Kernel) (x : Samples) (n s : ℤ) → numerator κ x n s ≡ column (λ place. polynomial (λ power. κ .coefficient power place) n s) x
+unfolding numerator polynomial column
+by-place κ x n s =
+    let c : ℕ → ℕ → ℤ = κ .coefficient in
+    let ρ : List ℤ = x 0 ∷ x 1 ∷ x 2 ∷ x 3 ∷ n ∷ s ∷ c 0 0 ∷ c 0 1 ∷ c 0 2 ∷ c 0 3 ∷ c 1 0 ∷ c 1 1 ∷ c 1 2 ∷ c 1 3 ∷ c 2 0 ∷ c 2 1 ∷ c 2 2 ∷ c 2 3 ∷ c 3 0 ∷ c 3 1 ∷ c 3 2 ∷ c 3 3 ∷ [] in
+    let at : ℕ → ℕ → Expr = λ power place. var (6 + 4 * power + place) in
+    let sum : (ℕ → Expr) → Expr = λ w. w 0 :* var 0 :+ w 1 :* var 1 :+ w 2 :* var 2 :+ w 3 :* var 3 in
+    ring ρ (polynomialE (λ power. sum (at power)) (var 4) (var 5)) (sum (λ place. polynomialE (λ power. at power place) (var 4) (var 5))) tt
+
 -- ---- named samples
--- x and y agree where the kernel names a sample
-abbrev pub Agree : Kernel → (ℕ → ℤ) → (ℕ → ℤ) → Type 0
-Agree κ x y = (place : ℕ) → place < 4 → κ .names place ≡ true → x place ≡ y place
+-- "the 2, 3, 4 or 4 samples that the kernel names": of xm, x0, x1, x2
+pub record Named : Type 0 where
+  pub linear : map (names (kernelOf 0)) (0 ∷ 1 ∷ 2 ∷ 3 ∷ []) ≡ false ∷ true ∷ true ∷ false ∷ []
+  pub lagrange : map (names (kernelOf 1)) (0 ∷ 1 ∷ 2 ∷ 3 ∷ []) ≡ true ∷ true ∷ true ∷ false ∷ []
+  pub parabolic : map (names (kernelOf 2)) (0 ∷ 1 ∷ 2 ∷ 3 ∷ []) ≡ true ∷ true ∷ true ∷ true ∷ []
+  pub cubic : map (names (kernelOf 3)) (0 ∷ 1 ∷ 2 ∷ 3 ∷ []) ≡ true ∷ true ∷ true ∷ true ∷ []
+
+pub named : Named
+unfolding kernelOf names
+named = record { linear = refl; lagrange = refl; parabolic = refl; cubic = refl }
+
+-- and no others
+pub names-past : (k place : ℕ) → names (kernelOf k) (suc (suc (suc (suc place)))) ≡ false
+unfolding kernelOf names
+names-past k place = of-all (λ κ. names κ (suc (suc (suc (suc place)))) ≡ false) refl refl refl refl k
 
 -- equal samples at the four places
-numerator-at : (κ : Kernel) (x y : ℕ → ℤ) (n s : ℤ) → x 0 ≡ y 0 → x 1 ≡ y 1 → x 2 ≡ y 2 → x 3 ≡ y 3 → numerator κ x n s ≡ numerator κ y n s
+numerator-at : (κ : Kernel) (x y : Samples) (n s : ℤ) → x 0 ≡ y 0 → x 1 ≡ y 1 → x 2 ≡ y 2 → x 3 ≡ y 3 → numerator κ x n s ≡ numerator κ y n s
 unfolding numerator polynomial column
 numerator-at κ x y n s a b c d = λ i. numerator κ (four (a i) (b i) (c i) (d i)) n s
 
@@ -87,27 +110,27 @@ either : (ρ : List ℤ) (i j : ℕ) (b : Bool) → (b ≡ true → at ρ i ≡ 
 either ρ i j true h = h refl
 either ρ i j false h = refl
 
-gap-named : (κ : Kernel) {x y : ℕ → ℤ} → Agree κ x y → (place : ℕ) → suc place < 4 → gap κ x place ≡ gap κ y place
-gap-named κ {x} {y} h place l = go (κ .names place) refl (κ .names (suc place)) refl
+gap-named : (κ : Kernel) {x y : Samples} → Agree κ x y → (place : ℕ) → gap κ x place ≡ gap κ y place
+gap-named κ {x} {y} h place = go (names κ place) refl (names κ (suc place)) refl
   where
-    go : (a : Bool) → κ .names place ≡ a → (b : Bool) → κ .names (suc place) ≡ b
+    go : (a : Bool) → names κ place ≡ a → (b : Bool) → names κ (suc place) ≡ b
         → cond (a && b) (natAbs (x (suc place) -ℤ x place)) 0 ≡ cond (a && b) (natAbs (y (suc place) -ℤ y place)) 0
-    go true e true d = let f : x place ≡ y place = h place (omega arith) e in λ i. natAbs (h (suc place) l d i -ℤ f i)
+    go true e true d = λ i. natAbs (h (suc place) d i -ℤ h place e i)
     go true e false d = refl
     go false e b d = refl
 
-module _ (k : ℕ) {x y : ℕ → ℤ} (h : Agree (kernelOf k) x y) where
+module _ (k : ℕ) {x y : Samples} (h : Agree (kernelOf k) x y) where
   -- the samples of x that are not named may be exchanged for those of y
   pub named-only : (n s : ℤ) → numerator (kernelOf k) x n s ≡ numerator (kernelOf k) y n s
-  unfolding kernelOf numerator polynomial column
+  unfolding kernelOf names numerator polynomial column
   named-only n s =
       let ρ : List ℤ = x 0 ∷ x 1 ∷ x 2 ∷ x 3 ∷ y 0 ∷ y 1 ∷ y 2 ∷ y 3 ∷ n ∷ s ∷ [] in
-      let mixed : Kernel → ℕ → Expr = λ κ place. cond (κ .names place) (var place) (var (4 + place)) in
-      let same : (place : ℕ) → place < 4 → at ρ place ≡ x place → at ρ (4 + place) ≡ y place → eval ρ (mixed (kernelOf k) place) ≡ y place
-      = λ place l a b. either ρ place (4 + place) (kernelOf k .names place) (λ e. a ∙ h place l e ∙ sym b) ∙ b in
+      let mixed : Kernel → ℕ → Expr = λ κ place. cond (names κ place) (var place) (var (4 + place)) in
+      let same : (place : ℕ) → at ρ place ≡ x place → at ρ (4 + place) ≡ y place → eval ρ (mixed (kernelOf k) place) ≡ y place
+      = λ place a b. either ρ place (4 + place) (names (kernelOf k) place) (λ e. a ∙ h place e ∙ sym b) ∙ b in
       row-law (λ κ. numeratorE κ var (var 8) (var 9) := numeratorE κ (mixed κ) (var 8) (var 9)) tt tt tt tt k ρ
       ∙ numerator-at (kernelOf k) (λ place. eval ρ (mixed (kernelOf k) place)) y n s
-      (same 0 (lit< tt) refl refl) (same 1 (lit< tt) refl refl) (same 2 (lit< tt) refl refl) (same 3 (lit< tt) refl refl)
+      (same 0 refl refl) (same 1 refl refl) (same 2 refl refl) (same 3 refl refl)
 
   rounded-named : (m : ℤ) → rounded (kernelOf k) x m ≡ rounded (kernelOf k) y m
   unfolding rounded
@@ -123,13 +146,31 @@ module _ (k : ℕ) {x y : ℕ → ℤ} (h : Agree (kernelOf k) x y) where
 
   pub paper-named : (f : ℤ) → paper (kernelOf k) x f ≡ paper (kernelOf k) y f
   unfolding paper
-  paper-named f = ap (held (unit (kernelOf k) (2 ^ 32))) (named-only f (pos (2 ^ 32)))
+  paper-named f = rw (named-only f (pos (2 ^ 32)))
 
   pub jump-named : jump (kernelOf k) x ≡ jump (kernelOf k) y
   unfolding jump
-  jump-named =
-      let g : (place : ℕ) → suc place < 4 → gap (kernelOf k) x place ≡ gap (kernelOf k) y place = gap-named (kernelOf k) h in
-      λ i. max (max (g 0 (lit< tt) i) (g 1 (lit< tt) i)) (g 2 (lit< tt) i)
+  jump-named = λ i. max (max (gap-named (kernelOf k) h 0 i) (gap-named (kernelOf k) h 1 i)) (gap-named (kernelOf k) h 2 i)
+
+  pub close-named : (f z : ℤ) → Close (kernelOf k) x f z → Close (kernelOf k) y f z
+  unfolding Close
+  close-named f z c =
+      let κ : Kernel = kernelOf k in
+      let S : ℕ = unit κ (2 ^ 32) in
+      subst (λ (D : ℕ). Within ((κ .K + 2 * D) * S) (pos (2 * κ .K) *ℤ (z *ℤ pos S -ℤ paper κ y f))) jump-named
+      (subst (λ (p : ℤ). Within ((κ .K + 2 * jump κ x) * S) (pos (2 * κ .K) *ℤ (z *ℤ pos S -ℤ p))) (paper-named f) c)
+
+-- ---- D is the largest of the differences: none is larger, and no smaller number is as large as all
+pub gap-le : (κ : Kernel) (x : Samples) (place : ℕ) → place < 3 → gap κ x place ≤ jump κ x
+unfolding jump
+gap-le κ x zero l = omega arith
+gap-le κ x (suc zero) l = omega arith
+gap-le κ x (suc (suc zero)) l = omega arith
+gap-le κ x (suc (suc (suc place))) l = absurd (omega arith)
+
+pub jump-least : (κ : Kernel) (x : Samples) {B : ℕ} → gap κ x 0 ≤ B → gap κ x 1 ≤ B → gap κ x 2 ≤ B → jump κ x ≤ B
+unfolding jump
+jump-least κ x a b c = omega arith
 
 -- ---- R is 1 or 2, and no sample past b + R is named
 pub reach-least : (k : ℕ) → 1 ≤ kernelOf k .reach
@@ -140,12 +181,12 @@ pub reach-most : (k : ℕ) → kernelOf k .reach ≤ 2
 unfolding kernelOf
 reach-most k = leb→le (kernelOf k .reach) 2 (of-all (λ κ. T (leb (κ .reach) 2)) tt tt tt tt k)
 
-pub named-in-reach : (k place : ℕ) → place < 4 → kernelOf k .names place ≡ true → place ≤ kernelOf k .reach + 1
-unfolding kernelOf
-named-in-reach k zero l e = omega arith
-named-in-reach k (suc zero) l e = omega arith
-named-in-reach k (suc (suc zero)) l e = omega (arith, reach-least k)
-named-in-reach k (suc (suc (suc zero))) l e =
-    let t : T (not (kernelOf k .names 3) || leb 2 (kernelOf k .reach)) = of-all (λ κ. T (not (κ .names 3) || leb 2 (κ .reach))) tt tt tt tt k in
+pub named-in-reach : (k place : ℕ) → names (kernelOf k) place ≡ true → place ≤ kernelOf k .reach + 1
+unfolding kernelOf names
+named-in-reach k zero e = omega arith
+named-in-reach k (suc zero) e = omega arith
+named-in-reach k (suc (suc zero)) e = omega (arith, reach-least k)
+named-in-reach k (suc (suc (suc zero))) e =
+    let t : T (not (names (kernelOf k) 3) || leb 2 (kernelOf k .reach)) = of-all (λ κ. T (not (names κ 3) || leb 2 (κ .reach))) tt tt tt tt k in
     omega (arith, leb→le 2 (kernelOf k .reach) (subst (λ (b : Bool). T (not b || leb 2 (kernelOf k .reach))) e t))
-named-in-reach k (suc (suc (suc (suc place)))) l e = absurd (omega arith)
+named-in-reach k (suc (suc (suc (suc place)))) e = absurd (subst T (sym e ∙ names-past k place) tt)

@@ -1,5 +1,5 @@
 -- Each kernel scaled by its own degree: `spare` is a factor of its numerator and of its unit. Assumes nothing.
-use mathlib.Core.Path.{_≡_, refl, sym, _∙_, subst}
+use mathlib.Core.Path.{_≡_, refl, sym, _∙_, ap, subst}
 use mathlib.Core.Bool.{Bool, _||_}
 use mathlib.Core.List.{[], _∷_}
 use Prim.Native.Nat.{ℕ, zero, suc, _*_, _^_, _<_, _≤_}
@@ -8,24 +8,24 @@ use native.Mathlib.Nat.{le-trans, le-of-eq, mul-le-mul-left}
 use borrow.Author.Tests.{lt-leb}
 use lib.Dec.{T, leb, leb→le, eqb, eqb→eq, lit<}
 use lib.IntN.{ℤ, pos, natAbs, _+ℤ_, _*ℤ_}
-use Rattle.integers.specs.Floor.{roundDiv, round-scale}
 use Rattle.integers.specs.Within.{Within, abs-mul, abs-zero, w-lit, w-add, w-mul}
 use Rattle.integers.specs.Ring.{var, lit, _:+_, _:*_, ring}
-use Rattle.kernels.specs.Kernel.{Kernel, four, kernelOf}
-use Rattle.kernels.specs.Value.{column, polynomial, numerator, unit}
-use Rattle.kernels.specs.Scale.{spare, weight}
+use Rattle.kernels.specs.Kernel.{Samples, four, Kernel, kernelOf}
+use Rattle.kernels.specs.Value.{column, polynomial, numerator, unit, nearestWhole}
+use Rattle.kernels.specs.Scale.{spare, weight, largestNumerator}
 use Rattle.kernels.proofs.Rows.{of-all}
+use Rattle.kernels.proofs.Whole.{whole-scale}
 use Rattle.kernels.proofs.Table.{every-four, one-of-four}
 
--- ---- by kernel number
-pub spare-is : (k : ℕ) → spare (kernelOf k) ≡ four (2 ^ 28) (2 ^ 14) (2 ^ 14) 1 k
+-- ---- by kernel number: 0, 3, and the two that are neither
+spare-is : (k : ℕ) → spare (kernelOf k) ≡ four (2 ^ 28) (2 ^ 14) (2 ^ 14) 1 k
 unfolding kernelOf spare
 spare-is zero = refl
 spare-is (suc zero) = refl
 spare-is (suc (suc zero)) = refl
 spare-is (suc (suc (suc k))) = refl
 
-pub degree-is : (k : ℕ) → kernelOf k .degree ≡ four 1 2 2 3 k
+degree-is : (k : ℕ) → kernelOf k .degree ≡ four 1 2 2 3 k
 unfolding kernelOf
 degree-is zero = refl
 degree-is (suc zero) = refl
@@ -33,20 +33,34 @@ degree-is (suc (suc zero)) = refl
 degree-is (suc (suc (suc k))) = refl
 
 -- rounding what the code has is rounding the value
-pub round-short : (k : ℕ) (n : ℤ) → roundDiv (n *ℤ pos (spare (kernelOf k))) (unit (kernelOf k) (2 ^ 14)) ≡ roundDiv n (four (2 ^ 14) (2 ^ 29) (2 ^ 29) (6 * 2 ^ 42) k)
+whole-short : (k : ℕ) (n : ℤ) → nearestWhole (n *ℤ pos (spare (kernelOf k))) (unit (kernelOf k) (2 ^ 14)) ≡ nearestWhole n (four (2 ^ 14) (2 ^ 29) (2 ^ 29) (6 * 2 ^ 42) k)
 unfolding kernelOf spare unit
-round-short zero n = round-scale n (2 ^ 14) (2 ^ 28) (lit< tt) (lit< tt)
-round-short (suc zero) n = round-scale n (2 ^ 29) (2 ^ 14) (lit< tt) (lit< tt)
-round-short (suc (suc zero)) n = round-scale n (2 ^ 29) (2 ^ 14) (lit< tt) (lit< tt)
-round-short (suc (suc (suc k))) n = round-scale n (6 * 2 ^ 42) 1 (lit< tt) (lit< tt)
+whole-short zero n = whole-scale n (2 ^ 14) (2 ^ 28) (lit< tt) (lit< tt)
+whole-short (suc zero) n = whole-scale n (2 ^ 29) (2 ^ 14) (lit< tt) (lit< tt)
+whole-short (suc (suc zero)) n = whole-scale n (2 ^ 29) (2 ^ 14) (lit< tt) (lit< tt)
+whole-short (suc (suc (suc k))) n = whole-scale n (6 * 2 ^ 42) 1 (lit< tt) (lit< tt)
 
--- kernels 1 and 2 are those that are neither 0 nor 3
-pub middle : {A : Type 0} (a b d : A) (k : ℕ) → k < 4 → (k ≡ 0 → ⊥) → (k ≡ 3 → ⊥) → four a b b d k ≡ b
-middle a b d zero l h t = absurd (h refl)
-middle a b d (suc zero) l h t = refl
-middle a b d (suc (suc zero)) l h t = refl
-middle a b d (suc (suc (suc zero))) l h t = absurd (t refl)
-middle a b d (suc (suc (suc (suc k)))) l h t = absurd (omega arith)
+-- what the code knows of a kernel from its tests
+pub record Scaled (k degree left own : ℕ) : Type 0 where
+  pub degree-of : kernelOf k .degree ≡ degree
+  pub spare-of : spare (kernelOf k) ≡ left
+  pub whole-of : (n : ℤ) → nearestWhole (n *ℤ pos (spare (kernelOf k))) (unit (kernelOf k) (2 ^ 14)) ≡ nearestWhole n own
+
+pub linear : {k : ℕ} → k ≡ 0 → Scaled k 1 (2 ^ 28) (2 ^ 14)
+linear {k} e = record { degree-of = degree-is k ∙ ap (four 1 2 2 3) e; spare-of = spare-is k ∙ ap (four (2 ^ 28) (2 ^ 14) (2 ^ 14) 1) e; whole-of = λ n. whole-short k n ∙ ap (λ (j : ℕ). nearestWhole n (four (2 ^ 14) (2 ^ 29) (2 ^ 29) (6 * 2 ^ 42) j)) e }
+
+pub cubic : {k : ℕ} → k ≡ 3 → Scaled k 3 1 (6 * 2 ^ 42)
+cubic {k} e = record { degree-of = degree-is k ∙ ap (four 1 2 2 3) e; spare-of = spare-is k ∙ ap (four (2 ^ 28) (2 ^ 14) (2 ^ 14) 1) e; whole-of = λ n. whole-short k n ∙ ap (λ (j : ℕ). nearestWhole n (four (2 ^ 14) (2 ^ 29) (2 ^ 29) (6 * 2 ^ 42) j)) e }
+
+pub quadratic : {k : ℕ} → k < 4 → (k ≡ 0 → ⊥) → (k ≡ 3 → ⊥) → Scaled k 2 (2 ^ 14) (2 ^ 29)
+quadratic {k} l h t = record { degree-of = degree-is k ∙ middle 1 2 3 k l h t; spare-of = spare-is k ∙ middle (2 ^ 28) (2 ^ 14) 1 k l h t; whole-of = λ n. whole-short k n ∙ ap (nearestWhole n) (middle (2 ^ 14) (2 ^ 29) (6 * 2 ^ 42) k l h t) }
+  where
+    middle : (a b d k : ℕ) → k < 4 → (k ≡ 0 → ⊥) → (k ≡ 3 → ⊥) → four a b b d k ≡ b
+    middle a b d zero l h t = absurd (h refl)
+    middle a b d (suc zero) l h t = refl
+    middle a b d (suc (suc zero)) l h t = refl
+    middle a b d (suc (suc (suc zero))) l h t = absurd (t refl)
+    middle a b d (suc (suc (suc (suc k)))) l h t = absurd (omega arith)
 
 -- what is spared makes a number no smaller
 spare-pos : (k : ℕ) → 1 ≤ spare (kernelOf k)
@@ -70,7 +84,7 @@ all-low : (k : ℕ) → T (low (kernelOf k))
 unfolding kernelOf
 all-low = of-all (λ κ. T (low κ)) tt tt tt tt
 
-pub above-degree : (k power : ℕ) (x : ℕ → ℤ) → power < 4 → kernelOf k .degree < power → column (kernelOf k .coefficient power) x ≡ pos 0
+pub above-degree : (k power : ℕ) (x : Samples) → power < 4 → kernelOf k .degree < power → column (kernelOf k .coefficient power) x ≡ pos 0
 unfolding column
 above-degree k power x h l =
     let c : ℕ → ℤ = kernelOf k .coefficient power in
@@ -82,13 +96,13 @@ above-degree k power x h l =
 
 -- ---- a numerator from its columns, and its size
 module _ {v0 v1 v2 v3 : ℤ} (m : ℤ) where
-  pub numerator-by : (κ : Kernel) (x : ℕ → ℤ) → v0 ≡ column (κ .coefficient 0) x → v1 ≡ column (κ .coefficient 1) x → v2 ≡ column (κ .coefficient 2) x → v3 ≡ column (κ .coefficient 3) x
+  pub numerator-by : (κ : Kernel) (x : Samples) → v0 ≡ column (κ .coefficient 0) x → v1 ≡ column (κ .coefficient 1) x → v2 ≡ column (κ .coefficient 2) x → v3 ≡ column (κ .coefficient 3) x
       → polynomial (four v0 v1 v2 v3) m (pos (2 ^ 14)) ≡ numerator κ x m (pos (2 ^ 14))
   unfolding numerator polynomial
   numerator-by κ x a b c d = λ i. polynomial (four (a i) (b i) (c i) (d i)) m (pos (2 ^ 14))
 
   pub polynomial-within : Within (weight 0 * 2 ^ 15) v0 → Within (weight 1 * 2 ^ 15) v1 → Within (weight 2 * 2 ^ 15) v2 → Within (weight 3 * 2 ^ 15) v3 → Within (2 ^ 14) m
-      → Within (38 * 2 ^ 57) (polynomial (four v0 v1 v2 v3) m (pos (2 ^ 14)))
+      → Within largestNumerator (polynomial (four v0 v1 v2 v3) m (pos (2 ^ 14)))
   unfolding polynomial
   polynomial-within a b c d h =
       let s = w-lit (pos (2 ^ 14)) in

@@ -1,28 +1,33 @@
 -- How far a kernel's value rises over at most half a unit of u, by its slope at three points: for any row of coefficients. Assumes nothing.
 use mathlib.Core.Path.{_≡_, subst}
 use mathlib.Core.List.{List, [], _∷_}
-use Prim.Native.Nat.{ℕ}
+use Prim.Native.Nat.{ℕ, _+_}
 use lib.IntN.{ℤ, pos, _+ℤ_, _-ℤ_, _*ℤ_}
 use lib.Signed.{_≤ℤ_}
 use Rattle.integers.specs.Difference.{ω-mul}
 use Rattle.integers.specs.Ring.{Expr, var, lit, _:+_, _:-_, _:*_, ring}
 use Rattle.integers.specs.Order.{ωℤ, ≤ℤ-trans, nn-sub, nn-add, nn-mul}
 use Rattle.integers.specs.Inequality.{by-nn}
-use Rattle.kernels.specs.Kernel.{Kernel}
+use Rattle.kernels.specs.Kernel.{Samples, Kernel}
 use Rattle.kernels.specs.Value.{column, polynomial, numerator}
+use Rattle.kernels.proofs.Rows.{polynomialE}
 
 -- The slope at u is v₁ + 2 v₂ u + 3 v₃ u², v₁ v₂ v₃ being the columns. Over the half unit from a/2 to b/2 it is a mean of three numbers: of
 -- v₁ + v₂ (a + b)/2 + 3 v₃ a b/4, and of the same with a twice and with b twice. These are the columns of this, over 4:
 abbrev pub slope : Kernel → ℤ → ℤ → ℕ → ℤ
 slope κ a b place = pos 4 *ℤ κ .coefficient 1 place +ℤ pos 2 *ℤ (a +ℤ b) *ℤ κ .coefficient 2 place +ℤ pos 3 *ℤ a *ℤ b *ℤ κ .coefficient 3 place
 
-slope-column : (κ : Kernel) (x : ℕ → ℤ) (a b : ℤ)
+-- the same of expressions
+abbrev slopeE : Expr → Expr → Expr → Expr → Expr → Expr
+slopeE a b v₁ v₂ v₃ = lit (pos 4) :* v₁ :+ lit (pos 2) :* (a :+ b) :* v₂ :+ lit (pos 3) :* a :* b :* v₃
+
+slope-column : (κ : Kernel) (x : Samples) (a b : ℤ)
     → column (slope κ a b) x ≡ pos 4 *ℤ column (κ .coefficient 1) x +ℤ pos 2 *ℤ (a +ℤ b) *ℤ column (κ .coefficient 2) x +ℤ pos 3 *ℤ a *ℤ b *ℤ column (κ .coefficient 3) x
 unfolding column
 slope-column κ x a b =
     let c : ℕ → ℕ → ℤ = κ .coefficient in
     let ρ : List ℤ = a ∷ b ∷ x 0 ∷ x 1 ∷ x 2 ∷ x 3 ∷ c 1 0 ∷ c 1 1 ∷ c 1 2 ∷ c 1 3 ∷ c 2 0 ∷ c 2 1 ∷ c 2 2 ∷ c 2 3 ∷ c 3 0 ∷ c 3 1 ∷ c 3 2 ∷ c 3 3 ∷ [] in
-    let sl : Expr → Expr → Expr → Expr = λ p q r. lit (pos 4) :* p :+ lit (pos 2) :* (var 0 :+ var 1) :* q :+ lit (pos 3) :* var 0 :* var 1 :* r in
+    let sl : Expr → Expr → Expr → Expr = slopeE (var 0) (var 1) in
     let col : Expr → Expr → Expr → Expr → Expr = λ p q r s. p :* var 2 :+ q :* var 3 :+ r :* var 4 :+ s :* var 5 in
     ring ρ
     (col (sl (var 6) (var 10) (var 14)) (sl (var 7) (var 11) (var 15)) (sl (var 8) (var 12) (var 16)) (sl (var 9) (var 13) (var 17)))
@@ -55,14 +60,14 @@ mean x y z =
 
 -- the numerator at z
 abbrev at : Expr → Expr
-at z = let s : Expr = lit (pos 2) :* var 1 in var 4 :* (s :* s :* s) :+ var 5 :* (z :* s :* s) :+ var 6 :* (z :* z :* s) :+ var 7 :* (z :* z :* z)
+at z = polynomialE (λ power. var (4 + power)) z (lit (pos 2) :* var 1)
 
 -- B less K times the slope
 abbrev room : Expr → Expr → Expr
-room a b = var 9 :- var 8 :* (lit (pos 4) :* var 5 :+ lit (pos 2) :* (a :+ b) :* var 6 :+ lit (pos 3) :* a :* b :* var 7)
+room a b = var 9 :- var 8 :* slopeE a b (var 5) (var 6) (var 7)
 
 -- a kernel whose slope, times K, is at most B at the three points rises by at most B (v − u) t² from u to v, times K
-pub rises : (κ : Kernel) (x : ℕ → ℤ) (a t u v K B : ℤ) → (a *ℤ t) ≤ℤ u → u ≤ℤ v → v ≤ℤ ((a +ℤ pos 1) *ℤ t)
+pub rises : (κ : Kernel) (x : Samples) (a t u v K B : ℤ) → (a *ℤ t) ≤ℤ u → u ≤ℤ v → v ≤ℤ ((a +ℤ pos 1) *ℤ t)
     → (K *ℤ column (slope κ a a) x) ≤ℤ B → (K *ℤ column (slope κ a (a +ℤ pos 1)) x) ≤ℤ B → (K *ℤ column (slope κ (a +ℤ pos 1) (a +ℤ pos 1)) x) ≤ℤ B
     → (K *ℤ (numerator κ x v (pos 2 *ℤ t) -ℤ numerator κ x u (pos 2 *ℤ t))) ≤ℤ (B *ℤ ((v -ℤ u) *ℤ (t *ℤ t)))
 unfolding numerator polynomial

@@ -13,19 +13,19 @@ use Rattle.integers.specs.Range.{in-w, weaken}
 use Rattle.integers.specs.Within.{Within, w-lit, w-add, w-mul, w-weaken}
 use Rattle.oscillator.specs.Position.{fraction, fourteenBits}
 use Rattle.oscillator.proofs.Positions.{fourteen-nearest, fourteen-before}
-use Rattle.kernels.specs.Kernel.{Kernel, entry, kernelOf}
+use Rattle.kernels.specs.Kernel.{Samples, entry, Kernel, kernelOf}
 use Rattle.kernels.specs.Value.{column, filterFraction}
 use Rattle.kernels.specs.Scale.{weight}
 use Rattle.kernels.proofs.Rows.{of-all}
 
 -- ---- by kernel number
 -- every number above 2 is the cubic's
-pub above : (k : ℕ) → 3 ≤ k → kernelOf k ≡ kernelOf 3
+pub cubic-above : (k : ℕ) → 3 ≤ k → kernelOf k ≡ kernelOf 3
 unfolding kernelOf
-above zero h = absurd (omega arith)
-above (suc zero) h = absurd (omega arith)
-above (suc (suc zero)) h = absurd (omega arith)
-above (suc (suc (suc k))) h = refl
+cubic-above zero h = absurd (omega arith)
+cubic-above (suc zero) h = absurd (omega arith)
+cubic-above (suc (suc zero)) h = absurd (omega arith)
+cubic-above (suc (suc (suc k))) h = refl
 
 pub nearest-is : (k : ℕ) → eqb k 1 ≡ kernelOf k .nearest
 unfolding kernelOf
@@ -99,7 +99,7 @@ module _ (k power : ℕ) (h : power < 4) where
   coefficient-within place l = record { abs = leb→le (natAbs (c place)) 6 (one-of-four (λ place. leb (natAbs (c place)) 6) (both .0) place l) }
 
   -- a column of 16-bit samples
-  pub column-within : (x : ℕ → ℤ) → Within (2 ^ 15) (x 0) → Within (2 ^ 15) (x 1) → Within (2 ^ 15) (x 2) → Within (2 ^ 15) (x 3) → Within (weight power * 2 ^ 15) (column c x)
+  pub column-within : (x : Samples) → Within (2 ^ 15) (x 0) → Within (2 ^ 15) (x 1) → Within (2 ^ 15) (x 2) → Within (2 ^ 15) (x 3) → Within (weight power * 2 ^ 15) (column c x)
   unfolding column
   column-within x p q r s =
       let term : (place : ℕ) → Within (2 ^ 15) (x place) → Within (natAbs (c place) * 2 ^ 15) (c place *ℤ x place) = λ place. w-mul (w-lit (c place)) in

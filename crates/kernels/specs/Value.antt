@@ -5,12 +5,12 @@ use mathlib.Core.Bool.{Bool, _||_}
 use mathlib.Core.List.{List, _∷_}
 use Prim.Native.Nat.{ℕ, _+_, _-_, _*_, _^_}
 use lib.IntN.{ℤ, pos, negℤ, _+ℤ_, _*ℤ_}
-use lib.ListN.{getD}
+use lib.ListN.{length, drop}
 use lib.Signed.{ltZ}
 use Rattle.integers.specs.Floor.{roundDiv}
 use Rattle.integers.specs.Range.{minZ, maxZ}
 use Rattle.oscillator.specs.Position.{basepoint, fraction, fourteenBits}
-use Rattle.kernels.specs.Kernel.{Samples, Kernel}
+use Rattle.kernels.specs.Kernel.{Samples, places, Kernel}
 
 -- ---- exact
 -- a row of coefficients times the samples (a column of the Farrow structure in source document 002)
@@ -29,15 +29,20 @@ numerator κ x n s = polynomial (λ power. column (κ .coefficient power) x) n s
 unfoldable pub unit : Kernel → ℕ → ℕ
 unit κ s = κ .denominator * s ^ 3
 
--- ---- the card: "the filter uses m .. and u = m/16384"
--- "The value is kept exact, rounded to the nearest whole number with halves upward"
+-- ---- the card: "The filter uses m .. and u = m/16384"
+-- "rounded to the nearest whole number with halves upward": z/d
+unfoldable pub nearestWhole : ℤ → ℕ → ℤ
+nearestWhole z d = roundDiv z d
+
+-- "The value is kept exact, rounded .."
 unfoldable pub rounded : Kernel → Samples → ℤ → ℤ
-rounded κ x m = roundDiv (numerator κ x m (pos (2 ^ 14))) (unit κ (2 ^ 14))
+rounded κ x m = nearestWhole (numerator κ x m (pos (2 ^ 14))) (unit κ (2 ^ 14))
 
 -- "held to −32768..32767": z and the limits are over S
 unfoldable pub held : ℕ → ℤ → ℤ
 held S z = maxZ (negℤ (pos 32768) *ℤ pos S) (minZ (pos 32767 *ℤ pos S) z)
 
+-- ".. then held"
 unfoldable pub output : Kernel → Samples → ℤ → ℤ
 output κ x m = held 1 (rounded κ x m)
 
@@ -55,14 +60,18 @@ paper κ x f = held (unit κ (2 ^ 32)) (numerator κ x f (pos (2 ^ 32)))
 -- ---- which samples
 -- "x0 is sample b, x1 is sample b+1, xm is sample b−1, x2 is sample b+2. Samples before the first are zero": of the joined samples, by place
 unfoldable pub joinedAt : List ℤ → ℕ → Samples
-joinedAt xs b place = getD (pos 0 ∷ xs) (b + place) (pos 0)
+joinedAt xs b place = places (pos 0 ∷ xs) (b + place)
 
--- the same of the card's window, "the newest four samples, oldest first", when an output is due: the newest of them is then sample b + R
+-- the card's window, "the newest four samples (oldest first, zeros at the start)", after the samples xs
+unfoldable pub newest : List ℤ → List ℤ
+newest xs = drop (length xs) (pos 0 ∷ pos 0 ∷ pos 0 ∷ pos 0 ∷ xs)
+
+-- xm, x0, x1, x2 in the window when an output is due: its newest sample is then b + R
 unfoldable pub windowAt : Kernel → List ℤ → Samples
-windowAt κ window place = getD window (place + 2 - κ .reach) (pos 0)
+windowAt κ window place = places window (place + 2 - κ .reach)
 
 -- ---- demand 2
--- m of a position. A register is one too: that in the first sample's span
+-- m of a position; a register is a position too, with the basepoint 0 or 1
 unfoldable pub filterFraction : Kernel → ℕ → ℤ
 filterFraction κ q = fourteenBits (fraction (κ .nearest) q)
 

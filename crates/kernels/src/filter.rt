@@ -1,13 +1,13 @@
-// The exact value of a kernel over a window of samples, as a numerator over `unit`.
+// The exact value of a kernel over a window of samples, as a numerator over `unit`. Kernel numbers above 3 stand for 3.
 ghost use mathlib.Core.Path.{_≡_};
 ghost use Prim.Native.Nat.{ℕ, _*_, _^_, _<_};
 ghost use lib.IntN.{ℤ, pos, _*ℤ_};
 ghost use Rattle.integers.specs.Within.{Within};
-ghost use Rattle.kernels.specs.Kernel.{four, coefficients, kernelOf};
+ghost use Rattle.kernels.specs.Kernel.{places, four, coefficients, kernelOf};
 ghost use Rattle.kernels.specs.Value.{column, polynomial, numerator, unit, windowAt, filterFraction, numeratorOf};
-ghost use Rattle.kernels.specs.Scale.{places, spare, weight};
+ghost use Rattle.kernels.specs.Scale.{spare, weight, largestNumerator};
 
-// By kernel, by power of u, and by sample: xm, x0, x1, x2.
+// By kernel, over the denominators 1, 2, 2, 6; by power of u; and by sample: xm, x0, x1, x2.
 pub const COEFFICIENTS: [[[i64; 4]; 4]; 4] = [
     [[0, 1, 0, 0], [0, -1, 1, 0], [0, 0, 0, 0], [0, 0, 0, 0]],
     [[0, 2, 0, 0], [-1, 0, 1, 0], [1, -2, 1, 0], [0, 0, 0, 0]],
@@ -29,7 +29,7 @@ pub fn reach(kernel: u8) -> u64
     if kernel < 2 { 1 } else { 2 }
 }
 
-// What `numerator` is over.
+// What `numerator` is over: 2^42 times the kernel's denominator.
 pub fn unit(kernel: u8) -> i64
     ensures { λ r. ⌜ r ≡ pos (unit (kernelOf kernel) (2 ^ 14)) ⌝ }
 {
@@ -42,7 +42,7 @@ pub fn unit(kernel: u8) -> i64
 }
 
 // m: the register's fraction as the filter uses it.
-pub fn fraction(kernel: u8, register: u32) -> i64
+pub fn filter_fraction(kernel: u8, register: u32) -> i64
     ensures { λ r. ⌜ r ≡ filterFraction (kernelOf kernel) register ⌝ }
 {
     oscillator::filter_fraction(nearest(kernel), register)
@@ -111,7 +111,7 @@ fn cubic(v0: i64, v1: i64, v2: i64, v3: i64, m: i64) -> i64
 // The numerator at m over xm, x0, x1, x2, without the power of two that the kernel's degree spares.
 fn short_sum(table: &[[[i64; 4]; 4]; 4], kernel: u8, m: i64, x: [i16; 4]) -> i64
     requires { ⌜ (kernel < 4) × (now table ≡ coefficients) × Within (2 ^ 14) m ⌝ }
-    ensures { λ r. ⌜ (r *ℤ pos (spare (kernelOf kernel)) ≡ numerator (kernelOf kernel) (places x) m (pos (2 ^ 14))) × Within (38 * 2 ^ 57) (r *ℤ pos (spare (kernelOf kernel))) ⌝ }
+    ensures { λ r. ⌜ (r *ℤ pos (spare (kernelOf kernel)) ≡ numerator (kernelOf kernel) (places x) m (pos (2 ^ 14))) × Within (largestNumerator) (r *ℤ pos (spare (kernelOf kernel))) ⌝ }
 {
     let v0 = column(table, kernel, 0, x);
     let v1 = column(table, kernel, 1, x);
@@ -134,9 +134,9 @@ pub fn short_numerator(
     window: [i16; 4],
 ) -> i64
     requires { ⌜ (kernel < 4) × (now table ≡ coefficients) ⌝ }
-    ensures { λ r. ⌜ (r *ℤ pos (spare (kernelOf kernel)) ≡ numeratorOf (kernelOf kernel) register window) × Within (38 * 2 ^ 57) (r *ℤ pos (spare (kernelOf kernel))) ⌝ }
+    ensures { λ r. ⌜ (r *ℤ pos (spare (kernelOf kernel)) ≡ numeratorOf (kernelOf kernel) register window) × Within (largestNumerator) (r *ℤ pos (spare (kernelOf kernel))) ⌝ }
 {
-    let m = fraction(kernel, register);
+    let m = filter_fraction(kernel, register);
     let x = around(kernel, window);
     short_sum(table, kernel, m, x)
 }
@@ -155,7 +155,7 @@ fn numerator_by(table: &[[[i64; 4]; 4]; 4], kernel: u8, register: u32, window: [
     n * 0x4000
 }
 
-// The exact value at a register over the newest four samples, oldest first, times `unit`. Kernel numbers above 3 stand for 3.
+// The exact value at a register over the newest four samples, oldest first, times `unit`.
 pub fn numerator(kernel: u8, register: u32, window: [i16; 4]) -> i64
     ensures { λ r. ⌜ r ≡ numeratorOf (kernelOf kernel) register window ⌝ }
 {

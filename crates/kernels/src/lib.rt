@@ -3,7 +3,7 @@
 mod filter;
 mod output;
 
-pub use filter::fraction;
+pub use filter::filter_fraction;
 pub use filter::nearest;
 pub use filter::numerator;
 pub use filter::reach;

@@ -1,19 +1,19 @@
 // The output of a kernel: its exact value, rounded once and held to 16 bits.
 ghost use mathlib.Core.Path.{_≡_};
-ghost use Prim.Native.Nat.{_*_, _^_, _<_};
+ghost use Prim.Native.Nat.{_^_, _<_};
 ghost use lib.IntN.{pos, _*ℤ_};
-ghost use Rattle.integers.specs.Floor.{floorDiv, roundDiv};
+ghost use Rattle.integers.specs.Floor.{floorDiv};
 ghost use Rattle.integers.specs.Within.{Within};
 ghost use Rattle.kernels.specs.Kernel.{coefficients, kernelOf};
-ghost use Rattle.kernels.specs.Value.{unit, held, outside, outputOf, clipOf};
-ghost use Rattle.kernels.specs.Scale.{spare};
+ghost use Rattle.kernels.specs.Value.{unit, nearestWhole, held, outside, outputOf, clipOf};
+ghost use Rattle.kernels.specs.Scale.{spare, largestNumerator};
 
 pub struct Output {
     pub value: i16,
     pub clip: bool,
 }
 
-// Rounded down to a sixth: the bias makes the dividend positive.
+// n/6 rounded down: a multiple of 6 makes the dividend positive.
 fn sixth(n: i64) -> i64
     requires { ⌜ Within (2 ^ 21) n ⌝ }
     ensures { λ r. ⌜ r ≡ floorDiv n 6 ⌝ }
@@ -21,10 +21,10 @@ fn sixth(n: i64) -> i64
     (n + 0x60_0000) / 6 - 0x10_0000
 }
 
-// To the nearest whole number, halves upward.
+// What `short_numerator` gives, to the nearest whole number: half of the kernel's unit at its own degree is added, and the sum rounded down.
 fn round(kernel: u8, n: i64) -> i64
-    requires { ⌜ (kernel < 4) × Within (38 * 2 ^ 57) (n *ℤ pos (spare (kernelOf kernel))) ⌝ }
-    ensures { λ r. ⌜ r ≡ roundDiv (n *ℤ pos (spare (kernelOf kernel))) (unit (kernelOf kernel) (2 ^ 14)) ⌝ }
+    requires { ⌜ (kernel < 4) × Within (largestNumerator) (n *ℤ pos (spare (kernelOf kernel))) ⌝ }
+    ensures { λ r. ⌜ r ≡ nearestWhole (n *ℤ pos (spare (kernelOf kernel))) (unit (kernelOf kernel) (2 ^ 14)) ⌝ }
 {
     if kernel == 0 {
         return (n + 0x2000) >> 14;

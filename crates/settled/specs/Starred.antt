@@ -5,13 +5,13 @@ use mathlib.Core.Bool.{Bool, true, false}
 use mathlib.Core.List.{List, [], _∷_}
 use Prim.Native.Nat.{ℕ, zero, suc, _+_, _^_}
 use lib.Ieee.{Float, fin}
-use lib.IntN.{ℤ, pos, negℤ}
+use lib.IntN.{ℤ, pos}
 use Rattle.oscillator.specs.declared.settings.Setting.the-variants.{Ratio, Rates}
 use Rattle.oscillator.specs.Word.{word, refused, isWord, inRange, nearestWord, ratioWord, ratesWord, wordOf}
 use Rattle.oscillator.specs.Position.{position, basepoint, fraction, fourteenBits}
 use Rattle.oscillator.specs.Register.{registerOf, stepped, carryOf, topBitOf, advanceOf}
-use Rattle.kernels.specs.Kernel.{Kernel, four, kernelOf}
-use Rattle.kernels.specs.Value.{column, polynomial, numerator, unit, rounded, held, output, outside, clips, joinedAt, filterFraction, value}
+use Rattle.kernels.specs.Kernel.{four, −, Kernel, kernelOf}
+use Rattle.kernels.specs.Value.{column, polynomial, numerator, unit, nearestWhole, rounded, held, output, outside, clips, joinedAt, filterFraction, value}
 
 -- the float 2^e, or −2^e
 abbrev power : Bool → ℤ → Float
@@ -22,10 +22,7 @@ abbrev b : ℕ → ℕ
 b q = basepoint (kernelOf 1 .nearest) q
 
 abbrev m : ℕ → ℤ
-m q = fourteenBits (fraction (kernelOf 1 .nearest) q)
-
-abbrev − : ℕ → ℤ
-− n = negℤ (pos n)
+m q = filterFraction (kernelOf 1) q
 
 abbrev samples : List ℕ → List ℤ
 samples [] = []
@@ -48,12 +45,12 @@ pub record Starred : Type 0 where
   -- "Kernel 2 at u = 1/2 over 16, 32, 48, 80: 38."
   pub parabolic : output (kernelOf 2) (four (pos 16) (pos 32) (pos 48) (pos 80)) half ≡ pos 38
   -- "Kernel 1, P C0000000 hexadecimal, word 2^30: b is 1 with m −4096, then 1 with m 0." So the card's advance is 0
-  pub two-at-one : (b 0xC0000000 ≡ 1) × (m 0xC0000000 ≡ negℤ (pos 4096)) × (b (position 0xC0000000 (2 ^ 30 ∷ [])) ≡ 1) × (m (position 0xC0000000 (2 ^ 30 ∷ [])) ≡ pos 0)
+  pub two-at-one : (b 0xC0000000 ≡ 1) × (m 0xC0000000 ≡ − 4096) × (b (position 0xC0000000 (2 ^ 30 ∷ [])) ≡ 1) × (m (position 0xC0000000 (2 ^ 30 ∷ [])) ≡ pos 0)
   -- "Over 10, 20, 40 the first gives 17."
   pub three-point : value (kernelOf 1) (samples (10 ∷ 20 ∷ 40 ∷ [])) 0xC0000000 ≡ pos 17
-  pub no-advance : advanceOf true 0xC0000000 (stepped 0xC0000000 (2 ^ 30)) (2 ^ 30) ≡ 0
+  pub no-advance : advanceOf (kernelOf 1 .nearest) 0xC0000000 (stepped 0xC0000000 (2 ^ 30)) (2 ^ 30) ≡ 0
   -- "Kernel 1: P 7FFFFFFF has b 0, m 8191; P 80000000 has b 1, m −8192."
-  pub around-half : (b 0x7FFFFFFF ≡ 0) × (m 0x7FFFFFFF ≡ pos 8191) × (b 0x80000000 ≡ 1) × (m 0x80000000 ≡ negℤ (pos 8192))
+  pub around-half : (b 0x7FFFFFFF ≡ 0) × (m 0x7FFFFFFF ≡ pos 8191) × (b 0x80000000 ≡ 1) × (m 0x80000000 ≡ − 8192)
   -- "Fraction 3FFFF hexadecimal: m 0; 40000: m 1."
   pub fourteen : (fourteenBits (pos 0x3FFFF) ≡ pos 0) × (fourteenBits (pos 0x40000) ≡ pos 1)
   -- "Kernel 0 at 1/2: 0, 1 gives 1; 0, −1 gives 0."
@@ -63,10 +60,10 @@ pub record Starred : Type 0 where
   -- "Rates 1 and 3: 1431655765; 2 and 3: 2863311531."
   pub thirds : (wordOf (Rates 1 3) ≡ word 1431655765) × (wordOf (Rates 2 3) ≡ word 2863311531)
   -- "Ratio 2^−33: word 1. 2^−34: refusal 4. −1: refusal 2."
-  pub ratios : (wordOf (Ratio (power false (negℤ (pos 33)))) ≡ word 1) × (wordOf (Ratio (power false (negℤ (pos 34)))) ≡ refused 4) × (wordOf (Ratio (power true (pos 0))) ≡ refused 2)
+  pub ratios : (wordOf (Ratio (power false (− 33))) ≡ word 1) × (wordOf (Ratio (power false (− 34))) ≡ refused 4) × (wordOf (Ratio (power true (pos 0))) ≡ refused 2)
 
 pub starred : Starred
-unfolding isWord inRange nearestWord ratioWord ratesWord position basepoint fraction fourteenBits registerOf stepped carryOf topBitOf advanceOf kernelOf column polynomial numerator unit rounded held output outside clips joinedAt filterFraction value
+unfolding isWord inRange nearestWord ratioWord ratesWord position basepoint fraction fourteenBits registerOf stepped carryOf topBitOf advanceOf kernelOf column polynomial numerator unit nearestWhole rounded held output outside clips joinedAt filterFraction value
 starred = record {
   linear = (refl, refl);
   cubic = (refl, refl);

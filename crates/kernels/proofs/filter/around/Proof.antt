@@ -10,9 +10,8 @@ use mir.Syntax.{w16}
 use mir.Val.{toZ, ofZ}
 use mir.Facts.{toZ-ofZ}
 use Rattle.integers.specs.Operations.{elem-sfits}
-use Rattle.kernels.specs.Kernel.{kernelOf}
+use Rattle.kernels.specs.Kernel.{places, kernelOf}
 use Rattle.kernels.specs.Value.{windowAt}
-use Rattle.kernels.specs.Scale.{places}
 use Rattle.kernels.proofs.Table.{reach-low, reach-high}
 use Rattle.kernels.proofs.filter.around.Statement.{statement}
 use Rattle.kernels.proofs.filter.around.Tie as tie

@@ -10,11 +10,12 @@ use mir.Syntax.{w16, w64}
 use mir.Val.{SFits, toZ, ofZ}
 use Rattle.integers.specs.Ring.{Expr, var, cast, _:+_, _:*_}
 use Rattle.integers.specs.Range.{In, Interval, _to_, ±_, w-in, in-w, weaken}
+use Rattle.integers.specs.Sample.{IsSample}
 use Rattle.integers.specs.Within.{Within}
 use Rattle.integers.specs.Machine.{Known, none, _&_, whole, fits, computes}
-use Rattle.kernels.specs.Kernel.{kernelOf}
+use Rattle.kernels.specs.Kernel.{places, kernelOf}
 use Rattle.kernels.specs.Value.{column}
-use Rattle.kernels.specs.Scale.{places, weight}
+use Rattle.kernels.specs.Scale.{weight}
 use Rattle.kernels.proofs.Table.{coefficient-within, column-within}
 use Rattle.kernels.proofs.filter.column.Statement.{statement}
 use Rattle.kernels.proofs.filter.column.Tie as tie
@@ -51,16 +52,16 @@ module _ (c : tie.After-coefficient4) where
   abbrev c2 : ℤ
   c2 = c .coefficient4 .result
 
-  xm-in : In (negsuc 32767) (pos 32767) (x 0)
+  xm-in : IsSample (x 0)
   xm-in = whole w16 (sfits-of (c .before .before .before .before .before .before .before .xm .given))
 
-  x0-in : In (negsuc 32767) (pos 32767) (x 1)
+  x0-in : IsSample (x 1)
   x0-in = whole w16 (sfits-of (c .before .before .before .before .before .before .x0 .given))
 
-  x1-in : In (negsuc 32767) (pos 32767) (x 2)
+  x1-in : IsSample (x 2)
   x1-in = whole w16 (sfits-of (c .before .before .before .before .before .x1 .given))
 
-  x2-in : In (negsuc 32767) (pos 32767) (x 3)
+  x2-in : IsSample (x 3)
   x2-in = whole w16 (sfits-of (c .before .before .before .before .x2 .given))
 
   six : {z : ℤ} (place : ℕ) → place < 4 → z ≡ row place → In (negsuc 5) (pos 6) z
@@ -74,7 +75,7 @@ module _ (c : tie.After-coefficient4) where
       & six 3 (lit< tt) (c .coefficient4 .ensures)
       & xm-in & x0-in & x1-in & x2-in & none
 
-  within : {z : ℤ} → In (negsuc 32767) (pos 32767) z → Within (2 ^ 15) z
+  within : {z : ℤ} → IsSample z → Within (2 ^ 15) z
   within h = in-w (weaken (leZ-yes tt) (leZ-yes tt) h)
 
 -- a sample fits i64

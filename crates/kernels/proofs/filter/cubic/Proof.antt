@@ -6,6 +6,7 @@ use Rattle.integers.specs.Ring.{Expr, var, lit, _:+_, _:*_}
 use Rattle.integers.specs.Range.{±_, w-in}
 use Rattle.integers.specs.Machine.{Known, none, _&_, fits, gives}
 use Rattle.kernels.specs.Value.{polynomial}
+use Rattle.kernels.specs.Scale.{weight}
 use Rattle.kernels.proofs.Rows.{polynomialE}
 use Rattle.kernels.proofs.filter.cubic.Statement.{statement}
 use Rattle.kernels.proofs.filter.cubic.Tie as tie
@@ -21,7 +22,7 @@ abbrev sum : Expr
 sum = b :* var 4 :+ var 0 :* lit (pos (2 ^ 42))
 
 known : (c : tie.Start) → Known (c .args .v0 ∷ c .args .v1 ∷ c .args .v2 ∷ c .args .v3 ∷ c .args .m ∷ [])
-    (± (6 * 2 ^ 15) ∷ ± (12 * 2 ^ 15) ∷ ± (12 * 2 ^ 15) ∷ ± (8 * 2 ^ 15) ∷ ± (2 ^ 14) ∷ [])
+    (± (weight 0 * 2 ^ 15) ∷ ± (weight 1 * 2 ^ 15) ∷ ± (weight 2 * 2 ^ 15) ∷ ± (weight 3 * 2 ^ 15) ∷ ± (2 ^ 14) ∷ [])
 known c = w-in (c .pre .0) & w-in (c .pre .1) & w-in (c .pre .2) & w-in (c .pre .3) & w-in (c .pre .4) & none
 
 returns : tie.Need-returns

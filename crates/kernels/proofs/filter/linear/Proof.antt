@@ -8,6 +8,7 @@ use Rattle.integers.specs.Range.{±_, w-in}
 use Rattle.integers.specs.Machine.{Known, none, _&_, fits, computes}
 use Rattle.kernels.specs.Kernel.{four}
 use Rattle.kernels.specs.Value.{polynomial}
+use Rattle.kernels.specs.Scale.{weight}
 use Rattle.kernels.proofs.Rows.{polynomialE}
 use Rattle.kernels.proofs.filter.linear.Statement.{statement}
 use Rattle.kernels.proofs.filter.linear.Tie as tie
@@ -16,7 +17,7 @@ use Rattle.kernels.proofs.filter.linear.Tie as tie
 abbrev sum : Expr
 sum = var 1 :* var 2 :+ var 0 :* lit (pos (2 ^ 14))
 
-known : (c : tie.Start) → Known (c .args .v0 ∷ c .args .v1 ∷ c .args .m ∷ []) (± (6 * 2 ^ 15) ∷ ± (12 * 2 ^ 15) ∷ ± (2 ^ 14) ∷ [])
+known : (c : tie.Start) → Known (c .args .v0 ∷ c .args .v1 ∷ c .args .m ∷ []) (± (weight 0 * 2 ^ 15) ∷ ± (weight 1 * 2 ^ 15) ∷ ± (2 ^ 14) ∷ [])
 known c = w-in (c .pre .0) & w-in (c .pre .1) & w-in (c .pre .2) & none
 
 returns : tie.Need-returns

@@ -10,7 +10,7 @@ use mir.Facts.{toZ-ofZ}
 use Rattle.integers.specs.Machine.{stored}
 use Rattle.kernels.specs.Kernel.{Kernel, kernelOf}
 use Rattle.kernels.specs.Value.{numeratorOf}
-use Rattle.kernels.proofs.Table.{above}
+use Rattle.kernels.proofs.Table.{cubic-above}
 use Rattle.kernels.proofs.filter.numerator.Statement.{statement}
 use Rattle.kernels.proofs.filter.numerator.Tie as tie
 
@@ -34,7 +34,7 @@ returns-3 c = answer (c .before .before .before) (kernelOf 2) (ap kernelOf (c .b
 returns-4 : tie.Need-returns-4
 returns-4 c =
     let r = c .before .before .match .rest in
-    answer (c .before .before .before) (kernelOf 3) (above (c .before .before .before .args .kernel) (omega (arith, r))) (sfits-of (c .numerator-by4 .ok)) (c .numerator-by4 .ensures)
+    answer (c .before .before .before) (kernelOf 3) (cubic-above (c .before .before .before .args .kernel) (omega (arith, r))) (sfits-of (c .numerator-by4 .ok)) (c .numerator-by4 .ensures)
 
 numerator-by-requires : tie.Need-numerator-by-requires
 numerator-by-requires c κs = search needs

@@ -8,6 +8,7 @@ use Rattle.integers.specs.Range.{±_, w-in}
 use Rattle.integers.specs.Machine.{Known, none, _&_, fits, computes}
 use Rattle.kernels.specs.Kernel.{four}
 use Rattle.kernels.specs.Value.{polynomial}
+use Rattle.kernels.specs.Scale.{weight}
 use Rattle.kernels.proofs.Rows.{polynomialE}
 use Rattle.kernels.proofs.filter.quadratic.Statement.{statement}
 use Rattle.kernels.proofs.filter.quadratic.Tie as tie
@@ -19,7 +20,7 @@ a = var 2 :* var 3 :+ var 1 :* lit (pos (2 ^ 14))
 abbrev sum : Expr
 sum = a :* var 3 :+ var 0 :* lit (pos (2 ^ 28))
 
-known : (c : tie.Start) → Known (c .args .v0 ∷ c .args .v1 ∷ c .args .v2 ∷ c .args .m ∷ []) (± (6 * 2 ^ 15) ∷ ± (12 * 2 ^ 15) ∷ ± (12 * 2 ^ 15) ∷ ± (2 ^ 14) ∷ [])
+known : (c : tie.Start) → Known (c .args .v0 ∷ c .args .v1 ∷ c .args .v2 ∷ c .args .m ∷ []) (± (weight 0 * 2 ^ 15) ∷ ± (weight 1 * 2 ^ 15) ∷ ± (weight 2 * 2 ^ 15) ∷ ± (2 ^ 14) ∷ [])
 known c = w-in (c .pre .0) & w-in (c .pre .1) & w-in (c .pre .2) & w-in (c .pre .3) & none
 
 returns : tie.Need-returns

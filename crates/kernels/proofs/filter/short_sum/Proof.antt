@@ -4,17 +4,17 @@ use mathlib.Core.Path.{_≡_, sym, _∙_, ap, subst}
 use Prim.Native.Nat.{ℕ, _*_, _^_, _<_}
 use native.Mathlib.Omega.{arith}
 use lib.Dec.{lit<}
-use lib.IntN.{ℤ, pos, _*ℤ_, *ℤ-comm}
+use lib.IntN.{ℤ, pos, _*ℤ_}
 use mir.Syntax.{w64}
 use mir.Val.{SFits}
 use mir.Facts.{toZ-ofZ}
-use Rattle.integers.specs.Difference.{one-*ℤ}
+use Rattle.integers.specs.Difference.{*ℤ-one}
 use Rattle.integers.specs.Within.{Within}
 use Rattle.integers.specs.Machine.{stored}
-use Rattle.kernels.specs.Kernel.{Kernel, four, kernelOf}
+use Rattle.kernels.specs.Kernel.{Samples, places, four, Kernel, kernelOf}
 use Rattle.kernels.specs.Value.{column, polynomial, numerator}
-use Rattle.kernels.specs.Scale.{places, spare, weight}
-use Rattle.kernels.proofs.Scales.{spare-is, degree-is, middle, above-degree, numerator-by, polynomial-within}
+use Rattle.kernels.specs.Scale.{spare, weight, largestNumerator}
+use Rattle.kernels.proofs.Scales.{linear, quadratic, cubic, above-degree, numerator-by, polynomial-within}
 use Rattle.kernels.proofs.filter.short_sum.Statement.{statement}
 use Rattle.kernels.proofs.filter.short_sum.Tie as tie
 
@@ -28,7 +28,7 @@ module _ (c : tie.After-column4) where
   abbrev κ : Kernel
   κ = kernelOf k
 
-  abbrev x : ℕ → ℤ
+  abbrev x : Samples
   x = places (s .args .x)
 
   abbrev v0 : ℤ
@@ -64,9 +64,9 @@ module _ (c : tie.After-column4) where
       numerator-by m κ x (r0 ∙ c .before .before .before .column .ensures .0) (r1 ∙ c .before .before .column2 .ensures .0) (r2 ∙ c .before .column3 .ensures .0) (r3 ∙ c .column4 .ensures .0)
       ∙ ap (λ (z : ℤ). numerator κ x z (pos (2 ^ 14))) (toZ-ofZ (s .fits .m))
 
-  size : Within (38 * 2 ^ 57) (numerator κ x (s .args .m) (pos (2 ^ 14)))
+  size : Within largestNumerator (numerator κ x (s .args .m) (pos (2 ^ 14)))
   size =
-      subst (Within (38 * 2 ^ 57)) whole
+      subst (Within largestNumerator) whole
       (polynomial-within m
       (subst (Within (weight 0 * 2 ^ 15)) (sym r0) (c .before .before .before .column .ensures .1))
       (subst (Within (weight 1 * 2 ^ 15)) (sym r1) (c .before .before .column2 .ensures .1))
@@ -80,33 +80,33 @@ module _ (c : tie.After-column4) where
 
   -- what is answered, of a result that is short by `spare`
   answer : (r : ℤ) (spared : ℕ) → SFits w64 r → spare κ ≡ spared → r *ℤ pos spared ≡ polynomial (four v0 v1 v2 v3) m (pos (2 ^ 14))
-      → (stored r *ℤ pos (spare κ) ≡ numerator κ x (s .args .m) (pos (2 ^ 14))) × Within (38 * 2 ^ 57) (stored r *ℤ pos (spare κ))
+      → (stored r *ℤ pos (spare κ) ≡ numerator κ x (s .args .m) (pos (2 ^ 14))) × Within largestNumerator (stored r *ℤ pos (spare κ))
   answer r spared f e g =
       let all : stored r *ℤ pos (spare κ) ≡ numerator κ x (s .args .m) (pos (2 ^ 14)) = (λ i. toZ-ofZ f i *ℤ pos (e i)) ∙ g ∙ whole in
-      (all, subst (Within (38 * 2 ^ 57)) (sym all) size)
+      (all, subst (Within largestNumerator) (sym all) size)
 
 returns : tie.Need-returns
 returns c =
     let b = c .before .before in
-    let e = c .before .if1 .taken in
-    let l : kernelOf (k b) .degree ≡ 1 = degree-is (k b) ∙ ap (four 1 2 2 3) e in
+    let scaled = linear {k = k b} (c .before .if1 .taken) in
+    let l : kernelOf (k b) .degree ≡ 1 = scaled .degree-of in
     let z2 = none b 2 (lit< tt) (omega arith) (r2 b ∙ b .before .column3 .ensures .0) in
     let z3 = none b 3 (lit< tt) (omega arith) (r3 b ∙ b .column4 .ensures .0) in
-    answer b (c .linear .result) (2 ^ 28) (sfits-of (c .linear .ok)) (spare-is (k b) ∙ ap (four (2 ^ 28) (2 ^ 14) (2 ^ 14) 1) e)
+    answer b (c .linear .result) (2 ^ 28) (sfits-of (c .linear .ok)) (scaled .spare-of)
     (c .linear .ensures ∙ (λ i. polynomial (four (v0 b) (v1 b) (sym z2 i) (sym z3 i)) (m b) (pos (2 ^ 14))))
 
 returns-2 : tie.Need-returns-2
 returns-2 c =
     let b = c .before .before .before in
-    answer b (c .cubic .result) 1 (sfits-of (c .cubic .ok)) (spare-is (k b) ∙ ap (four (2 ^ 28) (2 ^ 14) (2 ^ 14) 1) (c .before .if2 .taken)) (*ℤ-comm (c .cubic .result) (pos 1) ∙ one-*ℤ (c .cubic .result) ∙ c .cubic .ensures)
+    answer b (c .cubic .result) 1 (sfits-of (c .cubic .ok)) (cubic {k = k b} (c .before .if2 .taken) .spare-of) (*ℤ-one (c .cubic .result) ∙ c .cubic .ensures)
 
 returns-3 : tie.Need-returns-3
 returns-3 c =
     let b = c .before .before .before in
-    let low : (p q r : ℕ) → four p q q r (k b) ≡ q = λ p q r. middle p q r (k b) (s b .pre .0) (c .before .before .if1 .left) (c .before .if2 .left) in
-    let l : kernelOf (k b) .degree ≡ 2 = degree-is (k b) ∙ low 1 2 3 in
+    let scaled = quadratic {k = k b} (s b .pre .0) (c .before .before .if1 .left) (c .before .if2 .left) in
+    let l : kernelOf (k b) .degree ≡ 2 = scaled .degree-of in
     let z3 = none b 3 (lit< tt) (omega arith) (r3 b ∙ b .column4 .ensures .0) in
-    answer b (c .quadratic .result) (2 ^ 14) (sfits-of (c .quadratic .ok)) (spare-is (k b) ∙ low (2 ^ 28) (2 ^ 14) 1)
+    answer b (c .quadratic .result) (2 ^ 14) (sfits-of (c .quadratic .ok)) (scaled .spare-of)
     (c .quadratic .ensures ∙ (λ i. polynomial (four (v0 b) (v1 b) (v2 b) (sym z3 i)) (m b) (pos (2 ^ 14))))
 
 column-requires : tie.Need-column-requires

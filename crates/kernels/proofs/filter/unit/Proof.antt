@@ -5,7 +5,7 @@ use native.Mathlib.Omega.{arith}
 use lib.IntN.{ℤ, pos}
 use Rattle.kernels.specs.Kernel.{Kernel, kernelOf}
 use Rattle.kernels.specs.Value.{unit}
-use Rattle.kernels.proofs.Table.{above}
+use Rattle.kernels.proofs.Table.{cubic-above}
 use Rattle.kernels.proofs.filter.unit.Statement.{statement}
 use Rattle.kernels.proofs.filter.unit.Tie as tie
 
@@ -26,7 +26,7 @@ returns-3 c = ap (λ (k : ℕ). unitOf (kernelOf k)) (sym (c .match .keys3))
 
 returns-4 : tie.Need-returns-4
 unfolding unit kernelOf
-returns-4 c = let r = c .match .rest in ap unitOf (sym (above (c .before .args .kernel) (omega (arith, r))))
+returns-4 c = let r = c .match .rest in ap unitOf (sym (cubic-above (c .before .args .kernel) (omega (arith, r))))
 
 pub unit-spec : {M : Type 1} → statement M
 unit-spec = tie.close (tie.spec returns returns-2 returns-3 returns-4)

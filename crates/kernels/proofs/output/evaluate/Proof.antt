@@ -7,7 +7,7 @@ use native.Mathlib.Omega.{arith}
 use lib.IntN.{ℤ}
 use Rattle.kernels.specs.Kernel.{Kernel, kernelOf}
 use Rattle.kernels.specs.Value.{outputOf, clipOf}
-use Rattle.kernels.proofs.Table.{above}
+use Rattle.kernels.proofs.Table.{cubic-above}
 use Rattle.kernels.proofs.output.evaluate.Statement.{statement}
 use Rattle.kernels.proofs.output.evaluate.Tie as tie
 
@@ -32,7 +32,7 @@ returns-3 : tie.Need-returns-3
 returns-3 c = answer (c .before .before .before) (kernelOf 2) (ap kernelOf (c .before .before .match .keys3)) (c .evaluate-by3 .ensures)
 
 returns-4 : tie.Need-returns-4
-returns-4 c = let r = c .before .before .match .rest in answer (c .before .before .before) (kernelOf 3) (above (c .before .before .before .args .kernel) (omega (arith, r))) (c .evaluate-by4 .ensures)
+returns-4 c = let r = c .before .before .match .rest in answer (c .before .before .before) (kernelOf 3) (cubic-above (c .before .before .before .args .kernel) (omega (arith, r))) (c .evaluate-by4 .ensures)
 
 evaluate-by-requires : tie.Need-evaluate-by-requires
 evaluate-by-requires c κs = search needs

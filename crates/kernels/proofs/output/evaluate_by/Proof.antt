@@ -1,21 +1,19 @@
 -- `kernels::output::evaluate_by` meets its contract. Assumes nothing.
 use borrow.Author.Needs.{needs, sfits-of}
 use mathlib.Core.Path.{_≡_, sym, _∙_, ap, subst}
-use Prim.Native.Nat.{ℕ, _+_, _-_, _*_, _^_}
+use Prim.Native.Nat.{ℕ, _+_, _-_, _^_}
 use native.Mathlib.Omega.{arith}
-use lib.IntN.{ℤ, pos, negsuc, _*ℤ_}
-use lib.ListN.{getD}
+use lib.IntN.{ℤ, pos, _*ℤ_}
 use mir.Syntax.{w16}
 use mir.Val.{SFits}
 use mir.Facts.{toZ-ofZ}
-use Rattle.integers.specs.Floor.{roundDiv}
-use Rattle.integers.specs.Range.{In}
+use Rattle.integers.specs.Sample.{IsSample}
 use Rattle.integers.specs.Within.{Within}
 use Rattle.integers.specs.Machine.{stored, whole, i-fits}
 use Rattle.integers.specs.Operations.{elem-sfits}
-use Rattle.kernels.specs.Kernel.{Kernel, kernelOf}
-use Rattle.kernels.specs.Value.{unit, rounded, held, output, outside, clips, windowAt, filterFraction, numeratorOf, outputOf, clipOf}
-use Rattle.kernels.specs.Scale.{spare}
+use Rattle.kernels.specs.Kernel.{places, Kernel, kernelOf}
+use Rattle.kernels.specs.Value.{unit, nearestWhole, rounded, held, output, outside, clips, windowAt, filterFraction, numeratorOf, outputOf, clipOf}
+use Rattle.kernels.specs.Scale.{spare, largestNumerator}
 use Rattle.kernels.proofs.Hold.{held-in, outside-in}
 use Rattle.kernels.proofs.Table.{reach-low}
 use Rattle.kernels.proofs.Mean.{nothing-held}
@@ -44,21 +42,21 @@ module _ (c : tie.After-round) where
   rounds =
       toZ-ofZ (sfits-of (c .round .ok))
       ∙ c .round .ensures
-      ∙ ap (λ (n : ℤ). roundDiv (n *ℤ pos (spare κ)) (unit κ (2 ^ 14))) read
-      ∙ ap (λ (n : ℤ). roundDiv n (unit κ (2 ^ 14))) (c .before .short-numerator .ensures .0)
+      ∙ ap (λ (n : ℤ). nearestWhole (n *ℤ pos (spare κ)) (unit κ (2 ^ 14))) read
+      ∙ ap (λ (n : ℤ). nearestWhole n (unit κ (2 ^ 14))) (c .before .short-numerator .ensures .0)
 
 -- kernel 0
-inside : (c : tie.Then1) → In (negsuc 32767) (pos 32767) (z (c .before))
+inside : (c : tie.Then1) → IsSample (z (c .before))
 unfolding windowAt
 inside c =
     let b = c .before in
     let w = s b .args .window in
     let e : 1 ≡ κ b .reach = sym (reach-low (k b) (omega (arith, c .if1 .taken))) in
-    let x0 : SFits w16 (getD w 2 (pos 0)) = search (needs, elem-sfits) in
-    let x1 : SFits w16 (getD w 3 (pos 0)) = search (needs, elem-sfits) in
+    let x0 : SFits w16 (places w 2) = search (needs, elem-sfits) in
+    let x1 : SFits w16 (places w 3) = search (needs, elem-sfits) in
     nothing-held (k b) (windowAt (κ b) w) (s b .args .register) (c .if1 .taken)
-    (subst (λ (r : ℕ). In (negsuc 32767) (pos 32767) (getD w (1 + 2 - r) (pos 0))) e (whole w16 x0))
-    (subst (λ (r : ℕ). In (negsuc 32767) (pos 32767) (getD w (2 + 2 - r) (pos 0))) e (whole w16 x1))
+    (subst (λ (r : ℕ). IsSample (places w (1 + 2 - r))) e (whole w16 x0))
+    (subst (λ (r : ℕ). IsSample (places w (2 + 2 - r))) e (whole w16 x1))
 
 cast-value : tie.Need-cast-value
 cast-value c = subst (SFits w16) (sym (rounds (c .before))) (i-fits (inside c) tt)
@@ -79,7 +77,7 @@ short-numerator-requires c κs = search needs
 round-requires : tie.Need-round-requires
 round-requires c κs =
     let e : stored (c .short-numerator .result) ≡ c .short-numerator .result = toZ-ofZ (sfits-of (c .short-numerator .ok)) in
-    (c .before .pre .0, subst (λ (n : ℤ). Within (38 * 2 ^ 57) (n *ℤ pos (spare (kernelOf (c .before .args .kernel))))) (sym e) (c .short-numerator .ensures .1))
+    (c .before .pre .0, subst (λ (n : ℤ). Within largestNumerator (n *ℤ pos (spare (kernelOf (c .before .args .kernel))))) (sym e) (c .short-numerator .ensures .1))
 
 hold-requires : tie.Need-hold-requires
 hold-requires c κs = search needs

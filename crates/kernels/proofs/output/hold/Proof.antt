@@ -1,10 +1,9 @@
 -- `kernels::output::hold` meets its contract. Assumes nothing.
 use mathlib.Core.Path.{refl, sym, _∙_, subst}
-use lib.IntN.{pos, negℤ}
 use mir.Syntax.{w16}
 use mir.Val.{SFits}
 use mir.Facts.{toZ-ofZ}
-use Rattle.integers.specs.Range.{In}
+use Rattle.integers.specs.Sample.{IsSample}
 use Rattle.integers.specs.Machine.{i-fits}
 use Rattle.integers.specs.Operations.{lt-yes, lt-no}
 use Rattle.kernels.proofs.Hold.{held-in, held-low, held-high, outside-in, outside-low, outside-high}
@@ -18,7 +17,7 @@ returns-2 : tie.Need-returns-2
 returns-2 c = let h = lt-yes (toZ-ofZ (c .before .before .fits .z)) refl (c .if2 .taken) in (sym (held-low h), sym (outside-low h))
 
 -- a number that both tests let through
-inside : (c : tie.Else2) → In (negℤ (pos 32768)) (pos 32767) (c .before .before .args .z)
+inside : (c : tie.Else2) → IsSample (c .before .before .args .z)
 inside c =
     let s = c .before .before in
     record { low = lt-no (toZ-ofZ (s .fits .z)) refl (c .if2 .left); high = lt-no refl (toZ-ofZ (s .fits .z)) (c .before .if1 .left) }

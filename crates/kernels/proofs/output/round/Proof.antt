@@ -1,22 +1,21 @@
 -- `kernels::output::round` meets its contract: half of the unit is added, and the sum is rounded down. Assumes nothing.
-use mathlib.Core.Path.{_≡_, sym, _∙_, ap}
+use mathlib.Core.Path.{sym, _∙_, ap}
 use mathlib.Core.List.{[], _∷_}
 use Prim.Native.Nat.{ℕ, _*_, _^_}
 use lib.Dec.{lit<}
-use lib.IntN.{ℤ, pos, _+ℤ_, _*ℤ_}
+use lib.IntN.{ℤ, pos, _+ℤ_}
 use lib.Signed.{shrZ, leZ-yes}
 use mir.Syntax.{w64}
 use mir.Facts.{toZ-ofZ}
 use borrow.Author.Needs.{sfits-of}
 use Rattle.integers.specs.Ring.{Expr, var, lit, _:+_}
-use Rattle.integers.specs.Floor.{floorDiv, roundDiv, round-even, floor-floor}
+use Rattle.integers.specs.Floor.{floorDiv, floor-floor}
 use Rattle.integers.specs.Range.{±_, w-in, in-w, weaken}
 use Rattle.integers.specs.Machine.{Known, none, _&_, stored, computed, fits}
 use Rattle.integers.specs.Operations.{Reads, reads, r-shr, r-cast, r-in}
-use Rattle.kernels.specs.Kernel.{four, kernelOf}
-use Rattle.kernels.specs.Value.{unit}
-use Rattle.kernels.specs.Scale.{spare}
-use Rattle.kernels.proofs.Scales.{round-short, middle, w-spared}
+use Rattle.kernels.specs.Scale.{largestNumerator}
+use Rattle.kernels.proofs.Whole.{whole-even}
+use Rattle.kernels.proofs.Scales.{linear, quadratic, cubic, w-spared}
 use Rattle.kernels.proofs.output.round.Statement.{statement}
 use Rattle.kernels.proofs.output.round.Tie as tie
 
@@ -30,26 +29,22 @@ module _ (s : tie.Start) where
   abbrev n : ℤ
   n = s .args .n
 
-  known : Known (n ∷ []) (± (38 * 2 ^ 57) ∷ [])
+  known : Known (n ∷ []) (± largestNumerator ∷ [])
   known = w-in (w-spared k n (s .pre .1)) & none
-
-  -- what is promised, where the kernel's own unit is u
-  promised : (u : ℕ) → four (2 ^ 14) (2 ^ 29) (2 ^ 29) (6 * 2 ^ 42) k ≡ u → roundDiv n u ≡ roundDiv (n *ℤ pos (spare (kernelOf k))) (unit (kernelOf k) (2 ^ 14))
-  promised u e = sym (round-short k n ∙ ap (roundDiv n) e)
 
 returns : tie.Need-returns
 returns c =
     let s = c .before in
     r-cast w64 (r-shr (2 ^ 14) (lit< tt) (reads (known s) (with (2 ^ 13)) tt)) tt .same
-    ∙ sym (round-even (n s) (2 ^ 13) (lit< tt))
-    ∙ promised s (2 ^ 14) (ap (four (2 ^ 14) (2 ^ 29) (2 ^ 29) (6 * 2 ^ 42)) (c .if1 .taken))
+    ∙ sym (whole-even (n s) (2 ^ 13) (lit< tt))
+    ∙ sym (linear {k = k s} (c .if1 .taken) .whole-of (n s))
 
 returns-3 : tie.Need-returns-3
 returns-3 c =
     let s = c .before .before in
     r-cast w64 (r-shr (2 ^ 29) (lit< tt) (reads (known s) (with (2 ^ 28)) tt)) tt .same
-    ∙ sym (round-even (n s) (2 ^ 28) (lit< tt))
-    ∙ promised s (2 ^ 29) (middle (2 ^ 14) (2 ^ 29) (6 * 2 ^ 42) (k s) (s .pre .0) (c .before .if1 .left) (c .if2 .left))
+    ∙ sym (whole-even (n s) (2 ^ 28) (lit< tt))
+    ∙ sym (quadratic {k = k s} (s .pre .0) (c .before .if1 .left) (c .if2 .left) .whole-of (n s))
 
 -- in sixths
 module _ (s : tie.Start) where
@@ -68,8 +63,8 @@ returns-2 c =
     ∙ c .sixth .ensures
     ∙ ap (λ (z : ℤ). floorDiv z 6) (shifted s .same)
     ∙ floor-floor (n s +ℤ pos (3 * 2 ^ 42)) (2 ^ 42) 6
-    ∙ sym (round-even (n s) (3 * 2 ^ 42) (lit< tt))
-    ∙ promised s (6 * 2 ^ 42) (ap (four (2 ^ 14) (2 ^ 29) (2 ^ 29) (6 * 2 ^ 42)) (c .before .if2 .taken))
+    ∙ sym (whole-even (n s) (3 * 2 ^ 42) (lit< tt))
+    ∙ sym (cubic {k = k s} (c .before .if2 .taken) .whole-of (n s))
 
 add-result : tie.Need-add-result
 add-result c = fits (known (c .before)) (with (2 ^ 13)) tt
