@@ -1,4 +1,4 @@
-"""A model of the kernels, written from document 01 alone: the card's output for one kernel, register and window.
+"""A model of the kernels, written from document 01: the card's output for one kernel, register and window.
 
 values.py                              eight hash lines over fixed cases
 values.py 3 c0000000 -5 7 100 -3       output and clip of one case
@@ -74,7 +74,17 @@ def line(k, name, cases):
         count, clips = count + 1, clips + c
     print(f"kernel {k} {name}: {count} cases, hash {h}, clips {clips}")
 
+def run(k, word, samples, count):
+    """The first outputs from phase 0, each when sample b + R is the newest, zeros before the first."""
+    outputs = []
+    for q in range(0, count * word, word):
+        taken = position(k, q)[0] + R[k] + 1
+        outputs.append(output(k, q % 2**32, ([0] * 4 + samples[:taken])[-4:])[0])
+    return outputs
+
 def settled():          # "Settled examples"
+    assert run(0, 2**31, [0, 100, 40], 4) == [0, 50, 100, 70]
+    assert run(3, 2**31, [16, 32, 48, 80], 4) == [16, 24, 32, 39]
     half = 2**31
     assert output(2, half, [16, 32, 48, 80]) == (38, 0)
     assert output(0, half, [0, 0, 0, 1]) == (1, 0)     # "Kernel 0 at 1/2: 0, 1 gives 1;

@@ -4,13 +4,12 @@
 use mathlib.Core.Path.{_≡_, refl, sym, _∙_, ap, subst}
 use mathlib.Core.Bool.{Bool, true, false, not, cond, _&&_, _||_}
 use mathlib.Core.List.{List, [], _∷_, map}
-use Prim.Native.Nat.{ℕ, zero, suc, _+_, _*_, _^_, max, _≤_, _<_}
+use Prim.Native.Nat.{ℕ, zero, suc, _+_, _*_, _^_, _≤_, _<_}
 use native.Mathlib.Omega.{arith}
 use native.Mathlib.Nat.{one-mul, pow-zero, pow-suc}
 use lib.Dec.{T, leb, ltb, leb→le, ltb→lt}
 use lib.IntN.{ℤ, pos, natAbs, _-ℤ_, _*ℤ_}
 use Rattle.integers.specs.Ring.{Expr, var, lit, _:+_, _:*_, Eqn, _:=_, Check, Holds, at, eval, ring}
-use Rattle.integers.specs.Within.{Within}
 use Rattle.kernels.specs.Kernel.{Samples, four, Kernel, kernelOf, names, Agree}
 use Rattle.kernels.specs.Value.{column, polynomial, numerator, unit, rounded, held, output, outside, clips, paper}
 use Rattle.kernels.specs.Distance.{gap, jump, Close}
@@ -150,15 +149,11 @@ module _ (k : ℕ) {x y : Samples} (h : Agree (kernelOf k) x y) where
 
   pub jump-named : jump (kernelOf k) x ≡ jump (kernelOf k) y
   unfolding jump
-  jump-named = λ i. max (max (gap-named (kernelOf k) h 0 i) (gap-named (kernelOf k) h 1 i)) (gap-named (kernelOf k) h 2 i)
+  jump-named = rw (gap-named (kernelOf k) h 0, gap-named (kernelOf k) h 1, gap-named (kernelOf k) h 2)
 
   pub close-named : (f z : ℤ) → Close (kernelOf k) x f z → Close (kernelOf k) y f z
   unfolding Close
-  close-named f z c =
-      let κ : Kernel = kernelOf k in
-      let S : ℕ = unit κ (2 ^ 32) in
-      subst (λ (D : ℕ). Within ((κ .K + 2 * D) * S) (pos (2 * κ .K) *ℤ (z *ℤ pos S -ℤ paper κ y f))) jump-named
-      (subst (λ (p : ℤ). Within ((κ .K + 2 * jump κ x) * S) (pos (2 * κ .K) *ℤ (z *ℤ pos S -ℤ p))) (paper-named f) c)
+  close-named f z c = rw (sym jump-named, sym (paper-named f)) c
 
 -- ---- D is the largest of the differences: none is larger, and no smaller number is as large as all
 pub gap-le : (κ : Kernel) (x : Samples) (place : ℕ) → place < 3 → gap κ x place ≤ jump κ x
