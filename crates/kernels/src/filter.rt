@@ -111,7 +111,7 @@ fn cubic(v0: i64, v1: i64, v2: i64, v3: i64, m: i64) -> i64
 // The numerator at m over xm, x0, x1, x2, without the power of two that the kernel's degree spares.
 fn short_sum(table: &[[[i64; 4]; 4]; 4], kernel: u8, m: i64, x: [i16; 4]) -> i64
     requires { ⌜ (kernel < 4) × (now table ≡ coefficients) × Within (2 ^ 14) m ⌝ }
-    ensures { λ r. ⌜ (r *ℤ pos (spare (kernelOf kernel)) ≡ numerator (kernelOf kernel) (places x) m (pos (2 ^ 14))) × Within (largestNumerator) (r *ℤ pos (spare (kernelOf kernel))) ⌝ }
+    ensures { λ r. ⌜ (r *ℤ pos (spare (kernelOf kernel)) ≡ numerator (kernelOf kernel) (places x) m (pos (2 ^ 14))) × Within largestNumerator (r *ℤ pos (spare (kernelOf kernel))) ⌝ }
 {
     let v0 = column(table, kernel, 0, x);
     let v1 = column(table, kernel, 1, x);
@@ -134,7 +134,7 @@ pub fn short_numerator(
     window: [i16; 4],
 ) -> i64
     requires { ⌜ (kernel < 4) × (now table ≡ coefficients) ⌝ }
-    ensures { λ r. ⌜ (r *ℤ pos (spare (kernelOf kernel)) ≡ numeratorOf (kernelOf kernel) register window) × Within (largestNumerator) (r *ℤ pos (spare (kernelOf kernel))) ⌝ }
+    ensures { λ r. ⌜ (r *ℤ pos (spare (kernelOf kernel)) ≡ numeratorOf (kernelOf kernel) register window) × Within largestNumerator (r *ℤ pos (spare (kernelOf kernel))) ⌝ }
 {
     let m = filter_fraction(kernel, register);
     let x = around(kernel, window);

@@ -1,4 +1,6 @@
 // The output of a kernel: its exact value, rounded once and held to 16 bits.
+use crate::filter::COEFFICIENTS;
+use crate::filter::short_numerator;
 ghost use mathlib.Core.Path.{_≡_};
 ghost use Prim.Native.Nat.{_^_, _<_};
 ghost use lib.IntN.{pos, _*ℤ_};
@@ -23,7 +25,7 @@ fn sixth(n: i64) -> i64
 
 // What `short_numerator` gives, to the nearest whole number: half of the kernel's unit at its own degree is added, and the sum rounded down.
 fn round(kernel: u8, n: i64) -> i64
-    requires { ⌜ (kernel < 4) × Within (largestNumerator) (n *ℤ pos (spare (kernelOf kernel))) ⌝ }
+    requires { ⌜ (kernel < 4) × Within largestNumerator (n *ℤ pos (spare (kernelOf kernel))) ⌝ }
     ensures { λ r. ⌜ r ≡ nearestWhole (n *ℤ pos (spare (kernelOf kernel))) (unit (kernelOf kernel) (2 ^ 14)) ⌝ }
 {
     if kernel == 0 {
@@ -35,6 +37,7 @@ fn round(kernel: u8, n: i64) -> i64
     (n + 0x1000_0000) >> 29
 }
 
+// Held to 16 bits, and whether that changed it.
 fn hold(z: i64) -> Output
     ensures { λ r. ⌜ (r .value ≡ held 1 z) × (r .clip ≡ outside z) ⌝ }
 {
@@ -61,9 +64,10 @@ fn evaluate_by(table: &[[[i64; 4]; 4]; 4], kernel: u8, register: u32, window: [i
     requires { ⌜ (kernel < 4) × (now table ≡ coefficients) ⌝ }
     ensures { λ r. ⌜ (r .value ≡ outputOf (kernelOf kernel) register window) × (r .clip ≡ clipOf (kernelOf kernel) register window) ⌝ }
 {
-    let n = crate::filter::short_numerator(table, kernel, register, window);
+    let n = short_numerator(table, kernel, register, window);
     let z = round(kernel, n);
     if kernel == 0 {
+        // a mean of two samples is one
         let value = z as i16;
         return Output {
             value: value,
@@ -77,7 +81,7 @@ fn evaluate_by(table: &[[[i64; 4]; 4]; 4], kernel: u8, register: u32, window: [i
 pub fn evaluate(kernel: u8, register: u32, window: [i16; 4]) -> Output
     ensures { λ r. ⌜ (r .value ≡ outputOf (kernelOf kernel) register window) × (r .clip ≡ clipOf (kernelOf kernel) register window) ⌝ }
 {
-    let table = crate::filter::COEFFICIENTS;
+    let table = COEFFICIENTS;
     match kernel {
         0 => evaluate_by(&table, 0, register, window),
         1 => evaluate_by(&table, 1, register, window),
