@@ -112,7 +112,7 @@ pub output-fits : (κ : Kernel) (x : Samples) (m : ℤ) → IsSample (output κ 
 unfolding output
 output-fits κ x m = held-fits (rounded κ x m)
 
--- ---- of a window of samples the numerator leaves room in 64 bits for the unit times a sample
+-- ---- of a window of samples no numerator is above 38·2^57 in size, so that i64 has room for a sample times the unit (at most 6·2^57) beside it
 pub numerator-fits : (k register : ℕ) (window : List ℤ) → ((i : ℕ) → IsSample (places window i)) → Within largestNumerator (numeratorOf (kernelOf k) register window)
 unfolding numeratorOf windowAt
 numerator-fits k register window h =

@@ -64,7 +64,7 @@ module _ (xm x0 x1 x2 n s : ℤ) where
       :+ lit (pos 3) :* (n :* n :* s) :* (x1 :- lit (pos 2) :* x0 :+ xm)
       :+ n :* n :* n :* (x2 :- lit (pos 3) :* x1 :+ lit (pos 3) :* x0 :- xm)) tt xm x0 x1 x2 n s
 
--- ---- source document 002, "y(k) = Σ x(m_k − i) Σ b_ℓ(i) μ^ℓ": the coefficients b_ℓ(i), ℓ = 0 to 3, times the denominator. Index i is sample b − i, at the place 1 − i
+-- ---- source document 002, equation (4), which sums x(m_k − i) b_ℓ(i) μ_k^ℓ over i and ℓ: the coefficients b_ℓ(i), ℓ = 0 to 3, times the denominator. Index i is sample b − i, at the place 1 − i
 abbrev taps : Kernel → ℕ → List ℤ
 taps κ place = κ .coefficient 0 place ∷ κ .coefficient 1 place ∷ κ .coefficient 2 place ∷ κ .coefficient 3 place ∷ []
 

@@ -1,4 +1,4 @@
--- Holding to 16 bits: it keeps the order, moves no two numbers further apart, goes with a factor, and changes exactly the numbers that count as clips. Assumes nothing.
+-- Holding to 16 bits: it moves no two numbers further apart, goes with a factor, and changes exactly the numbers that count as clips. Assumes nothing.
 use mathlib.Core.Path.{_≡_, refl, sym, _∙_, ap, subst}
 use mathlib.Core.Bool.{Bool, true, false, not, _||_}
 use mathlib.Core.Logic.{_≢_}
@@ -7,28 +7,37 @@ use lib.Dec.{T}
 use lib.IntN.{ℤ, pos, negℤ, natAbs, _+ℤ_, _-ℤ_, _*ℤ_}
 use lib.Signed.{_≤ℤ_, _<ℤ_, ltZ, leZ-yes, ltZ-yes, ltZ-no, clashℤ}
 use Rattle.integers.specs.Difference.{ω-add, ω-neg, ω-minus}
-use Rattle.integers.specs.Order.{ωℤ, ≤ℤ-antisym, *ℤ-mono, nn-pos}
+use Rattle.integers.specs.Order.{ωℤ, ≤ℤ-trans, ≤ℤ-antisym, *ℤ-mono, nn-pos}
 use Rattle.integers.specs.Within.{Within, w-between, abs-is}
-use Rattle.integers.specs.Range.{minZ, maxZ, min-max}
+use Rattle.integers.specs.Range.{In, minZ, maxZ, min-max}
 use Rattle.integers.specs.Sample.{IsSample}
 use Rattle.kernels.specs.Value.{held, outside}
 
--- ---- what is held: a sample, a number below, a number above
-pub held-in : {z : ℤ} → IsSample z → held 1 z ≡ z
-unfolding held
-held-in {z} h =
-    ap (maxZ (negℤ (pos 32768))) (min-max (pos 32767) z (λ m n. m ≡ z) (λ i. ≤ℤ-antisym i (h .high)) (λ i. refl))
-    ∙ min-max (negℤ (pos 32768)) z (λ m n. n ≡ z) (λ i. refl) (λ i. ≤ℤ-antisym (h .low) i)
+-- ---- what is held, at any scale: a number between the limits, one below, one above
+module _ (S : ℕ) where
+  abbrev low : ℤ
+  low = negℤ (pos 32768) *ℤ pos S
 
-pub held-low : {z : ℤ} → z <ℤ negℤ (pos 32768) → held 1 z ≡ negℤ (pos 32768)
-unfolding held
-held-low {z} h =
-    ap (maxZ (negℤ (pos 32768))) (min-max (pos 32767) z (λ m n. m ≡ z) (λ i. absurd (omega ωℤ)) (λ i. refl))
-    ∙ min-max (negℤ (pos 32768)) z (λ m n. n ≡ negℤ (pos 32768)) (λ i. clashℤ h i) (λ i. refl)
+  abbrev high : ℤ
+  high = pos 32767 *ℤ pos S
 
-pub held-high : {z : ℤ} → pos 32767 <ℤ z → held 1 z ≡ pos 32767
-unfolding held
-held-high {z} h = ap (maxZ (negℤ (pos 32768))) (min-max (pos 32767) z (λ m n. m ≡ pos 32767) (λ i. refl) (λ i. clashℤ h i))
+  limits : low ≤ℤ high
+  limits = *ℤ-mono {x = negℤ (pos 32768)} {y = pos 32767} (nn-pos S) (leZ-yes tt)
+
+  pub held-in : {z : ℤ} → In low high z → held S z ≡ z
+  unfolding held
+  held-in {z} h =
+      ap (maxZ low) (min-max high z (λ m n. m ≡ z) (λ i. ≤ℤ-antisym i (h .high)) (λ i. refl)) ∙ min-max low z (λ m n. n ≡ z) (λ i. refl) (λ i. ≤ℤ-antisym (h .low) i)
+
+  pub held-low : {z : ℤ} → z <ℤ low → held S z ≡ low
+  unfolding held
+  held-low {z} h =
+      ap (maxZ low) (min-max high z (λ m n. m ≡ z) (λ i. clashℤ h (≤ℤ-trans limits i)) (λ i. refl)) ∙ min-max low z (λ m n. n ≡ low) (λ i. clashℤ h i) (λ i. refl)
+
+  pub held-high : {z : ℤ} → high <ℤ z → held S z ≡ high
+  unfolding held
+  held-high {z} h =
+      ap (maxZ low) (min-max high z (λ m n. m ≡ high) (λ i. refl) (λ i. clashℤ h i)) ∙ min-max low high (λ m n. n ≡ high) (λ i. refl) (λ i. ≤ℤ-antisym limits i)
 
 -- ---- what counts as a clip: what holds of the three cases holds of the test
 sides : (z : ℤ) (P : Bool → Type 0) → (z <ℤ negℤ (pos 32768) → P true) → (pos 32767 <ℤ z → P true) → (IsSample z → P false) → P (outside z)
@@ -53,18 +62,18 @@ outside-high {z} h = sides z (λ b. b ≡ true) (λ l. refl) (λ l. refl) (λ i.
 pub held-fits : (z : ℤ) → IsSample (held 1 z)
 held-fits z =
     sides z (λ b. IsSample (held 1 z))
-    (λ l. rw (held-low l) (record { low = leZ-yes tt; high = leZ-yes tt }))
-    (λ l. rw (held-high l) (record { low = leZ-yes tt; high = leZ-yes tt }))
-    (λ i. rw (held-in i) i)
+    (λ l. rw (held-low 1 l) (record { low = leZ-yes tt; high = leZ-yes tt }))
+    (λ l. rw (held-high 1 l) (record { low = leZ-yes tt; high = leZ-yes tt }))
+    (λ i. rw (held-in 1 i) i)
 
 pub inside-same : (z : ℤ) → outside z ≡ false → held 1 z ≡ z
-inside-same z = sides z (λ b. b ≡ false → held 1 z ≡ z) (λ l e. absurd (subst T e tt)) (λ l e. absurd (subst T e tt)) (λ i e. held-in i)
+inside-same z = sides z (λ b. b ≡ false → held 1 z ≡ z) (λ l e. absurd (subst T e tt)) (λ l e. absurd (subst T e tt)) (λ i e. held-in 1 i)
 
 pub outside-moved : (z : ℤ) → outside z ≡ true → held 1 z ≢ z
 outside-moved z =
     sides z (λ b. b ≡ true → held 1 z ≢ z)
-    (λ l e same. let s : z ≡ negℤ (pos 32768) = sym same ∙ held-low l in omega ωℤ)
-    (λ l e same. let s : z ≡ pos 32767 = sym same ∙ held-high l in omega ωℤ)
+    (λ l e same. let s : z ≡ negℤ (pos 32768) = sym same ∙ held-low 1 l in omega ωℤ)
+    (λ l e same. let s : z ≡ pos 32767 = sym same ∙ held-high 1 l in omega ωℤ)
     (λ i e. absurd (subst T (sym e) tt))
 
 -- ---- what is at most B more stays so
@@ -85,9 +94,6 @@ unfolding held
 held-near S x y B h =
     let top : ℤ = pos 32767 *ℤ pos S in
     max-near (negℤ (pos 32768) *ℤ pos S) (minZ top x) (minZ top y) B (min-near top x y B h)
-
-pub held-mono : (S : ℕ) {x y : ℤ} → x ≤ℤ y → held S x ≤ℤ held S y
-held-mono S {x} {y} h = let k = held-near S x y 0 (omega (ωℤ, ω-add y (pos 0))) in omega (ωℤ, ω-add (held S y) (pos 0))
 
 -- no further apart
 pub held-apart : (S : ℕ) (x y : ℤ) → Within (natAbs (x -ℤ y)) (held S x -ℤ held S y)

@@ -12,9 +12,9 @@ use Rattle.integers.specs.Range.{In, weaken}
 use Rattle.integers.specs.Sample.{IsSample}
 use Rattle.oscillator.proofs.Positions.{fourteen-before}
 use Rattle.kernels.specs.Kernel.{Samples, kernelOf}
-use Rattle.kernels.specs.Value.{column, polynomial, numerator, unit, nearestWhole, rounded, filterFraction}
+use Rattle.kernels.specs.Value.{column, polynomial, numerator, unit, rounded, filterFraction}
 use Rattle.kernels.proofs.Rows.{numeratorE}
-use Rattle.kernels.proofs.Whole.{whole-mono}
+use Rattle.kernels.proofs.Whole.{whole-mono, whole-exact}
 
 module _ (x : Samples) (m l : ℤ) (h : In (pos 0) (pos (2 ^ 14)) m) where
   abbrev ρ : List ℤ
@@ -39,13 +39,13 @@ module _ (x : Samples) (m l : ℤ) (h : In (pos 0) (pos (2 ^ 14)) m) where
   at-most p q = by-nn ρ value (var 5 :* lit (pos (2 ^ 42))) (mean (var 5 :- var 1) (var 5 :- var 2)) tt (mean-nn (nn-sub p) (nn-sub q))
 
 linear-in : (x : Samples) (register : ℕ) → IsSample (x 1) → IsSample (x 2) → IsSample (rounded (kernelOf 0) x (filterFraction (kernelOf 0) register))
-unfolding kernelOf nearestWhole rounded unit filterFraction
+unfolding kernelOf rounded unit filterFraction
 linear-in x register p q =
     let m : ℤ = filterFraction (kernelOf 0) register in
     let h : In (pos 0) (pos (2 ^ 14)) m = weaken (leZ-yes tt) (leZ-yes tt) (fourteen-before register) in
     record {
-      low = whole-mono (2 ^ 42) (lit< tt) (at-least x m (negsuc 32767) h (p .low) (q .low));
-      high = whole-mono (2 ^ 42) (lit< tt) (at-most x m (pos 32767) h (p .high) (q .high));
+      low = rw (sym (whole-exact (negsuc 32767) (2 ^ 42) (lit< tt))) (whole-mono (2 ^ 42) (lit< tt) (at-least x m (negsuc 32767) h (p .low) (q .low)));
+      high = rw (sym (whole-exact (pos 32767) (2 ^ 42) (lit< tt))) (whole-mono (2 ^ 42) (lit< tt) (at-most x m (pos 32767) h (p .high) (q .high)));
     }
 
 pub nothing-held : (k : ℕ) (x : Samples) (register : ℕ) → k ≡ 0 → IsSample (x 1) → IsSample (x 2) → IsSample (rounded (kernelOf k) x (filterFraction (kernelOf k) register))

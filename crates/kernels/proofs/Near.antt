@@ -163,7 +163,8 @@ module _ (κ : Kernel) (K : ℕ) (x : Samples) where
       (small E (f -ℤ fourteenBits f *ℤ pos (2 ^ 18)) (bits-close f)) in
       w-both (pos K) (moved f) (up (pos K) w₀ w₁ w₂) (up (negℤ (pos K)) (w-turn (pos K) k₀ w₀) (w-turn (pos K) k₁ w₁) (w-turn (pos K) k₂ w₂))
 
-  near-tame : T (tame κ K) → (q : ℕ) → let f : ℤ = fraction (κ .nearest) q in
+  -- for any kernel and K that pass the test
+  pub near-tame : T (tame κ K) → (q : ℕ) → let f : ℤ = fraction (κ .nearest) q in
       Within (jump κ x * unit κ (2 ^ 32)) (pos K *ℤ (numerator κ x f (pos (2 ^ 32)) -ℤ numerator κ x (fourteenBits f) (pos (2 ^ 14)) *ℤ pos (2 ^ 54)))
   unfolding unit
   near-tame t q =

@@ -4,7 +4,7 @@
 use mathlib.Core.Path.{_≡_, refl, sym, _∙_, ap, subst}
 use mathlib.Core.Bool.{Bool, true, false, not, cond, _&&_, _||_}
 use mathlib.Core.List.{List, [], _∷_, map}
-use Prim.Native.Nat.{ℕ, zero, suc, _+_, _*_, _^_, _≤_, _<_}
+use Prim.Native.Nat.{ℕ, zero, suc, _+_, _*_, _^_, max, _≤_, _<_}
 use native.Mathlib.Omega.{arith}
 use native.Mathlib.Nat.{one-mul, pow-zero, pow-suc}
 use lib.Dec.{T, leb, ltb, leb→le, ltb→lt}
@@ -109,14 +109,13 @@ either : (ρ : List ℤ) (i j : ℕ) (b : Bool) → (b ≡ true → at ρ i ≡ 
 either ρ i j true h = h refl
 either ρ i j false h = refl
 
+if-passed : (a b : Bool) (p q : ℕ) → (a ≡ true → b ≡ true → p ≡ q) → cond (a && b) p 0 ≡ cond (a && b) q 0
+if-passed true true p q h = h refl refl
+if-passed true false p q h = refl
+if-passed false b p q h = refl
+
 gap-named : (κ : Kernel) {x y : Samples} → Agree κ x y → (place : ℕ) → gap κ x place ≡ gap κ y place
-gap-named κ {x} {y} h place = go (names κ place) refl (names κ (suc place)) refl
-  where
-    go : (a : Bool) → names κ place ≡ a → (b : Bool) → names κ (suc place) ≡ b
-        → cond (a && b) (natAbs (x (suc place) -ℤ x place)) 0 ≡ cond (a && b) (natAbs (y (suc place) -ℤ y place)) 0
-    go true e true d = λ i. natAbs (h (suc place) d i -ℤ h place e i)
-    go true e false d = refl
-    go false e b d = refl
+gap-named κ h place = if-passed (names κ place) (names κ (suc place)) _ _ (λ e d. rw (h place e, h (suc place) d))
 
 module _ (k : ℕ) {x y : Samples} (h : Agree (kernelOf k) x y) where
   -- the samples of x that are not named may be exchanged for those of y
@@ -131,9 +130,12 @@ module _ (k : ℕ) {x y : Samples} (h : Agree (kernelOf k) x y) where
       ∙ numerator-at (kernelOf k) (λ place. eval ρ (mixed (kernelOf k) place)) y n s
       (same 0 refl refl) (same 1 refl refl) (same 2 refl refl) (same 3 refl refl)
 
+  same : numerator (kernelOf k) x ≡ numerator (kernelOf k) y
+  same = λ i n s. named-only n s i
+
   rounded-named : (m : ℤ) → rounded (kernelOf k) x m ≡ rounded (kernelOf k) y m
   unfolding rounded
-  rounded-named m = rw (named-only m (pos (2 ^ 14)))
+  rounded-named m = rw same
 
   pub output-named : (m : ℤ) → output (kernelOf k) x m ≡ output (kernelOf k) y m
   unfolding output
@@ -145,7 +147,7 @@ module _ (k : ℕ) {x y : Samples} (h : Agree (kernelOf k) x y) where
 
   pub paper-named : (f : ℤ) → paper (kernelOf k) x f ≡ paper (kernelOf k) y f
   unfolding paper
-  paper-named f = rw (named-only f (pos (2 ^ 32)))
+  paper-named f = rw same
 
   pub jump-named : jump (kernelOf k) x ≡ jump (kernelOf k) y
   unfolding jump
@@ -166,6 +168,23 @@ gap-le κ x (suc (suc (suc place))) l = absurd (omega arith)
 pub jump-least : (κ : Kernel) (x : Samples) {B : ℕ} → gap κ x 0 ≤ B → gap κ x 1 ≤ B → gap κ x 2 ≤ B → jump κ x ≤ B
 unfolding jump
 jump-least κ x a b c = omega arith
+
+-- for each kernel, over xm, x0, x1, x2
+module _ (xm x0 x1 x2 : ℤ) where
+  pub jump-linear : jump (kernelOf 0) (four xm x0 x1 x2) ≡ natAbs (x1 -ℤ x0)
+  unfolding kernelOf names jump
+  jump-linear = omega arith
+
+  pub jump-lagrange : jump (kernelOf 1) (four xm x0 x1 x2) ≡ max (natAbs (x0 -ℤ xm)) (natAbs (x1 -ℤ x0))
+  unfolding kernelOf names jump
+  jump-lagrange = omega arith
+
+  pub jump-four : (k : ℕ) → 2 ≤ k → jump (kernelOf k) (four xm x0 x1 x2) ≡ max (max (natAbs (x0 -ℤ xm)) (natAbs (x1 -ℤ x0))) (natAbs (x2 -ℤ x1))
+  unfolding kernelOf names jump
+  jump-four zero h = absurd (omega arith)
+  jump-four (suc zero) h = absurd (omega arith)
+  jump-four (suc (suc zero)) h = refl
+  jump-four (suc (suc (suc k))) h = refl
 
 -- ---- R is 1 or 2, and no sample past b + R is named
 pub reach-least : (k : ℕ) → 1 ≤ kernelOf k .reach

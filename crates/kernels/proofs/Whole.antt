@@ -6,8 +6,8 @@ use native.Mathlib.Omega.{arith}
 use lib.IntN.{ℤ, pos, _+ℤ_, _-ℤ_, _*ℤ_}
 use lib.Signed.{_≤ℤ_}
 use Rattle.integers.specs.Ring.{Expr, var, lit, neg, _:+_, _:-_, _:*_}
-use Rattle.integers.specs.Inequality.{goal≤, hyp≤, hyp<}
-use Rattle.integers.specs.Floor.{floorDiv, roundDiv, round-is, round-even, round-mono, round-scale}
+use Rattle.integers.specs.Inequality.{goal≤, goal<, hyp≤, hyp<}
+use Rattle.integers.specs.Floor.{floorDiv, roundDiv, round-is, round-eq, round-even, round-mono, round-scale}
 use Rattle.integers.specs.Within.{Within, w-between}
 use Rattle.kernels.specs.Value.{nearestWhole}
 
@@ -35,3 +35,12 @@ whole-scale z d k h l = round-scale z d k h l
 pub whole-even : (z : ℤ) (d : ℕ) → 0 < d → nearestWhole z (2 * d) ≡ floorDiv (z +ℤ pos d) (2 * d)
 unfolding nearestWhole
 whole-even z d h = round-even z d h
+
+-- a whole number is its own
+pub whole-exact : (c : ℤ) (d : ℕ) → 0 < d → nearestWhole (c *ℤ pos d) d ≡ c
+unfolding nearestWhole
+whole-exact c d h =
+    let ρ : List ℤ = c ∷ pos d ∷ [] in
+    let z : Expr = lit (pos 2) :* var 0 :* var 1 in
+    let w : Expr = lit (pos 2) :* (var 0 :* var 1) in
+    round-eq {z = c *ℤ pos d} h (record { low = goal≤ ρ z (w :+ var 1) (omega arith); high = goal< ρ w (z :+ var 1) (omega arith) })

@@ -8,11 +8,12 @@ use Rattle.oscillator.specs.Position.{basepoint, fraction}
 use Rattle.kernels.specs.Kernel.{Samples, Kernel, names}
 use Rattle.kernels.specs.Value.{unit, paper, joinedAt}
 
--- the difference of the neighbours at a place and the next, where the kernel names both
+-- the absolute difference of the neighbours at a place and the next, or 0 where the kernel does not name both
 abbrev pub gap : Kernel → Samples → ℕ → ℕ
 gap κ x place = cond (names κ place && names κ (suc place)) (natAbs (x (suc place) -ℤ x place)) 0
 
--- D: "the largest absolute difference between neighbours, in the order xm, x0, x1, x2, among the 2, 3, 4 or 4 samples that the kernel names"
+-- D: "the largest absolute difference between neighbours, in the order xm, x0, x1, x2, among the 2, 3, 4 or 4 samples that the kernel names, zeros before the first
+-- included"
 unfoldable pub jump : Kernel → Samples → ℕ
 jump κ x = max (max (gap κ x 0) (gap κ x 1)) (gap κ x 2)
 

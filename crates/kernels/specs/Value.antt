@@ -58,7 +58,8 @@ unfoldable pub paper : Kernel → Samples → ℤ → ℤ
 paper κ x f = held (unit κ (2 ^ 32)) (numerator κ x f (pos (2 ^ 32)))
 
 -- ---- which samples
--- "x0 is sample b, x1 is sample b+1, xm is sample b−1, x2 is sample b+2. Samples before the first are zero": of the joined samples, by place
+-- "x0 is sample b, x1 is sample b+1, xm is sample b−1, x2 is sample b+2. Samples before the first are zero": of the joined samples, by place (and zero past the last, which no
+-- output reads)
 unfoldable pub joinedAt : List ℤ → ℕ → Samples
 joinedAt xs b place = places (pos 0 ∷ xs) (b + place)
 

@@ -67,7 +67,7 @@ fn evaluate_by(table: &[[[i64; 4]; 4]; 4], kernel: u8, register: u32, window: [i
     let n = short_numerator(table, kernel, register, window);
     let z = round(kernel, n);
     if kernel == 0 {
-        // a mean of two samples is one
+        // the rounded mean of two samples is a sample
         let value = z as i16;
         return Output {
             value: value,

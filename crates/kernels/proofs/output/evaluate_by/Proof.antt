@@ -63,7 +63,7 @@ cast-value c = subst (SFits w16) (sym (rounds (c .before))) (i-fits (inside c) t
 
 returns : tie.Need-returns
 unfolding outputOf clipOf output clips
-returns c = (toZ-ofZ (cast-value c) ∙ rounds (c .before) ∙ sym (held-in (inside c)), sym (outside-in (inside c)))
+returns c = (toZ-ofZ (cast-value c) ∙ rounds (c .before) ∙ sym (held-in 1 (inside c)), sym (outside-in (inside c)))
 
 returns-2 : tie.Need-returns-2
 unfolding outputOf clipOf output clips
