@@ -91,6 +91,7 @@ def settled():          # "Settled examples"
     assert output(0, half, [0, 0, 0, -1]) == (0, 0)    # 0, -1 gives 0."
     assert output(3, half, [-32768, 32767, 32767, -32768]) == (32767, 1)
     assert position(1, 0xC0000000) == (1, -4096)       # newest taken is then sample 2
+    assert position(1, 0xC0000000 + 2**30) == (1, 0)
     assert output(1, 0xC0000000, [0, 10, 20, 40]) == (17, 0)
     assert position(1, 0x7FFFFFFF) == (0, 8191) and position(1, 0x80000000) == (1, -8192)
     assert position(0, 0x3FFFF) == (0, 0) and position(0, 0x40000) == (0, 1)

@@ -27,10 +27,6 @@ module _ (κ : Kernel) (x : Samples) (f : ℤ) where
   abbrev limit : ℤ → ℤ
   limit z = z *ℤ pos (unit κ (2 ^ 32))
 
-  pub paper-in : In (limit (negℤ (pos 32768))) (limit (pos 32767)) exact → paper κ x f ≡ exact
-  unfolding paper
-  paper-in h = held-in (unit κ (2 ^ 32)) h
-
   pub paper-low : exact <ℤ limit (negℤ (pos 32768)) → paper κ x f ≡ limit (negℤ (pos 32768))
   unfolding paper
   paper-low h = held-low (unit κ (2 ^ 32)) h
@@ -38,6 +34,10 @@ module _ (κ : Kernel) (x : Samples) (f : ℤ) where
   pub paper-high : limit (pos 32767) <ℤ exact → paper κ x f ≡ limit (pos 32767)
   unfolding paper
   paper-high h = held-high (unit κ (2 ^ 32)) h
+
+  pub paper-in : In (limit (negℤ (pos 32768))) (limit (pos 32767)) exact → paper κ x f ≡ exact
+  unfolding paper
+  paper-in h = held-in (unit κ (2 ^ 32)) h
 
 -- ---- rounding moves a value by at most a half, both sides times 2 and `unit`
 pub rounding : (κ : Kernel) (x : Samples) (m : ℤ) → 0 < κ .denominator
