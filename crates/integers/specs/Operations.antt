@@ -42,7 +42,7 @@ r-in {a} {b} h = subst (In a b) (sym (h .same)) (h .inside)
 pub stored-in : {a b z : ℤ} → SFits w64 z → In a b z → In a b (stored z)
 stored-in {a} {b} f h = subst (In a b) (sym (toZ-ofZ f)) h
 
--- ---- casts: to a signed width that roomFor the range (from i64 to i16, or the bits of an i64 read back), and from an unsigned number
+-- ---- casts: to a signed width that has room for the range (from i64 to i16, or the bits of an i64 read back), and from an unsigned number
 pub r-fits : {w : Width} {t z : ℤ} {r : Interval} → Reads t z r → T (roomFor w r) → SFits w t
 r-fits {w} h t = subst (SFits w) (sym (h .same)) (i-fits (h .inside) t)
 

@@ -1,5 +1,5 @@
 -- Each kernel scaled by its own degree: `spare` is a factor of its numerator and of its unit. Assumes nothing.
-use mathlib.Core.Path.{_≡_, refl, sym, _∙_, ap, subst}
+use mathlib.Core.Path.{_≡_, refl, sym, _∙_, subst}
 use mathlib.Core.Bool.{Bool, _||_}
 use mathlib.Core.List.{[], _∷_}
 use Prim.Native.Nat.{ℕ, zero, suc, _*_, _^_, _<_, _≤_}
@@ -17,50 +17,32 @@ use Rattle.kernels.proofs.Rows.{of-all}
 use Rattle.kernels.proofs.Whole.{whole-scale}
 use Rattle.kernels.proofs.Table.{every-four, one-of-four}
 
--- ---- by kernel number: 0, 3, and the two that are neither
-spare-is : (k : ℕ) → spare (kernelOf k) ≡ four (2 ^ 28) (2 ^ 14) (2 ^ 14) 1 k
-unfolding kernelOf spare
-spare-is zero = refl
-spare-is (suc zero) = refl
-spare-is (suc (suc zero)) = refl
-spare-is (suc (suc (suc k))) = refl
-
-degree-is : (k : ℕ) → kernelOf k .degree ≡ four 1 2 2 3 k
-unfolding kernelOf
-degree-is zero = refl
-degree-is (suc zero) = refl
-degree-is (suc (suc zero)) = refl
-degree-is (suc (suc (suc k))) = refl
-
--- rounding what the code has is rounding the value
-whole-short : (k : ℕ) (n : ℤ) → nearestWhole (n *ℤ pos (spare (kernelOf k))) (unit (kernelOf k) (2 ^ 14)) ≡ nearestWhole n (four (2 ^ 14) (2 ^ 29) (2 ^ 29) (6 * 2 ^ 42) k)
-unfolding kernelOf spare unit
-whole-short zero n = whole-scale n (2 ^ 14) (2 ^ 28) (lit< tt) (lit< tt)
-whole-short (suc zero) n = whole-scale n (2 ^ 29) (2 ^ 14) (lit< tt) (lit< tt)
-whole-short (suc (suc zero)) n = whole-scale n (2 ^ 29) (2 ^ 14) (lit< tt) (lit< tt)
-whole-short (suc (suc (suc k))) n = whole-scale n (6 * 2 ^ 42) 1 (lit< tt) (lit< tt)
-
--- what the code knows of a kernel from its tests
+-- ---- by kernel number: its degree, what is spared, and the unit that rounding what the code has is over
 pub record Scaled (k degree left own : ℕ) : Type 0 where
   pub degree-of : kernelOf k .degree ≡ degree
   pub spare-of : spare (kernelOf k) ≡ left
   pub whole-of : (n : ℤ) → nearestWhole (n *ℤ pos (spare (kernelOf k))) (unit (kernelOf k) (2 ^ 14)) ≡ nearestWhole n own
 
-pub linear : {k : ℕ} → k ≡ 0 → Scaled k 1 (2 ^ 28) (2 ^ 14)
-linear {k} e = record { degree-of = degree-is k ∙ ap (four 1 2 2 3) e; spare-of = spare-is k ∙ ap (four (2 ^ 28) (2 ^ 14) (2 ^ 14) 1) e; whole-of = λ n. whole-short k n ∙ ap (λ (j : ℕ). nearestWhole n (four (2 ^ 14) (2 ^ 29) (2 ^ 29) (6 * 2 ^ 42) j)) e }
+scaled : (k : ℕ) → Scaled k (four 1 2 2 3 k) (four (2 ^ 28) (2 ^ 14) (2 ^ 14) 1 k) (four (2 ^ 14) (2 ^ 29) (2 ^ 29) (6 * 2 ^ 42) k)
+unfolding kernelOf spare unit
+scaled zero = record { degree-of = refl; spare-of = refl; whole-of = λ n. whole-scale n (2 ^ 14) (2 ^ 28) (lit< tt) (lit< tt) }
+scaled (suc zero) = record { degree-of = refl; spare-of = refl; whole-of = λ n. whole-scale n (2 ^ 29) (2 ^ 14) (lit< tt) (lit< tt) }
+scaled (suc (suc zero)) = record { degree-of = refl; spare-of = refl; whole-of = λ n. whole-scale n (2 ^ 29) (2 ^ 14) (lit< tt) (lit< tt) }
+scaled (suc (suc (suc k))) = record { degree-of = refl; spare-of = refl; whole-of = λ n. whole-scale n (6 * 2 ^ 42) 1 (lit< tt) (lit< tt) }
 
-pub cubic : {k : ℕ} → k ≡ 3 → Scaled k 3 1 (6 * 2 ^ 42)
-cubic {k} e = record { degree-of = degree-is k ∙ ap (four 1 2 2 3) e; spare-of = spare-is k ∙ ap (four (2 ^ 28) (2 ^ 14) (2 ^ 14) 1) e; whole-of = λ n. whole-short k n ∙ ap (λ (j : ℕ). nearestWhole n (four (2 ^ 14) (2 ^ 29) (2 ^ 29) (6 * 2 ^ 42) j)) e }
+-- as the code tells them apart: 0, 3, and the two that are neither
+pub linear : (k : ℕ) → k ≡ 0 → Scaled k 1 (2 ^ 28) (2 ^ 14)
+linear k e = subst (λ (j : ℕ). Scaled j 1 (2 ^ 28) (2 ^ 14)) (sym e) (scaled 0)
 
-pub quadratic : {k : ℕ} → k < 4 → (k ≡ 0 → ⊥) → (k ≡ 3 → ⊥) → Scaled k 2 (2 ^ 14) (2 ^ 29)
-quadratic {k} l h t = record { degree-of = degree-is k ∙ middle 1 2 3 k l h t; spare-of = spare-is k ∙ middle (2 ^ 28) (2 ^ 14) 1 k l h t; whole-of = λ n. whole-short k n ∙ ap (nearestWhole n) (middle (2 ^ 14) (2 ^ 29) (6 * 2 ^ 42) k l h t) }
-  where
-    middle : (a b d k : ℕ) → k < 4 → (k ≡ 0 → ⊥) → (k ≡ 3 → ⊥) → four a b b d k ≡ b
-    middle a b d zero l h t = absurd (h refl)
-    middle a b d (suc zero) l h t = refl
-    middle a b d (suc (suc zero)) l h t = refl
-    middle a b d (suc (suc (suc zero))) l h t = absurd (t refl)
-    middle a b d (suc (suc (suc (suc k)))) l h t = absurd (omega arith)
+pub cubic : (k : ℕ) → k ≡ 3 → Scaled k 3 1 (6 * 2 ^ 42)
+cubic k e = subst (λ (j : ℕ). Scaled j 3 1 (6 * 2 ^ 42)) (sym e) (scaled 3)
+
+pub quadratic : (k : ℕ) → k < 4 → (k ≡ 0 → ⊥) → (k ≡ 3 → ⊥) → Scaled k 2 (2 ^ 14) (2 ^ 29)
+quadratic zero l h t = absurd (h refl)
+quadratic (suc zero) l h t = scaled 1
+quadratic (suc (suc zero)) l h t = scaled 2
+quadratic (suc (suc (suc zero))) l h t = absurd (t refl)
+quadratic (suc (suc (suc (suc k)))) l h t = absurd (omega arith)
 
 -- what is spared makes a number no smaller
 spare-pos : (k : ℕ) → 1 ≤ spare (kernelOf k)

@@ -44,11 +44,12 @@ pub record Starred : Type 0 where
   pub cubic : (values (kernelOf 3) (samples (16 ∷ 32 ∷ 48 ∷ 80 ∷ [])) (2 ^ 31) 0 4 ≡ samples (16 ∷ 24 ∷ 32 ∷ 39 ∷ [])) × (basepoint (kernelOf 3 .nearest) (2 ^ 33) + kernelOf 3 .reach ≡ 4)
   -- "Kernel 2 at u = 1/2 over 16, 32, 48, 80: 38."
   pub parabolic : output (kernelOf 2) (four (pos 16) (pos 32) (pos 48) (pos 80)) half ≡ pos 38
-  -- "Kernel 1, P C0000000 hexadecimal, word 2^30: b is 1 with m −4096, then 1 with m 0." So the card's advance is 0
+  -- "Kernel 1, P C0000000 hexadecimal, word 2^30: b is 1 with m −4096, then 1 with m 0."
   pub two-at-one : (b 0xC0000000 ≡ 1) × (m 0xC0000000 ≡ − 4096) × (b (position 0xC0000000 (2 ^ 30 ∷ [])) ≡ 1) × (m (position 0xC0000000 (2 ^ 30 ∷ [])) ≡ pos 0)
+  -- so the card's advance is 0
+  pub no-advance : advanceOf (kernelOf 1 .nearest) 0xC0000000 (stepped 0xC0000000 (2 ^ 30)) (2 ^ 30) ≡ 0
   -- "Over 10, 20, 40 the first gives 17."
   pub three-point : value (kernelOf 1) (samples (10 ∷ 20 ∷ 40 ∷ [])) 0xC0000000 ≡ pos 17
-  pub no-advance : advanceOf (kernelOf 1 .nearest) 0xC0000000 (stepped 0xC0000000 (2 ^ 30)) (2 ^ 30) ≡ 0
   -- "Kernel 1: P 7FFFFFFF has b 0, m 8191; P 80000000 has b 1, m −8192."
   pub around-half : (b 0x7FFFFFFF ≡ 0) × (m 0x7FFFFFFF ≡ pos 8191) × (b 0x80000000 ≡ 1) × (m 0x80000000 ≡ − 8192)
   -- "Fraction 3FFFF hexadecimal: m 0; 40000: m 1."
@@ -69,8 +70,8 @@ starred = record {
   cubic = (refl, refl);
   parabolic = refl;
   two-at-one = (refl, refl, refl, refl);
-  three-point = refl;
   no-advance = refl;
+  three-point = refl;
   around-half = (refl, refl, refl, refl);
   fourteen = (refl, refl);
   halves = (refl, refl);

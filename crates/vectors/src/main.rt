@@ -92,6 +92,16 @@ fn edge_register(n: u64) -> u32 {
     }
 }
 
+// Every register with every window.
+fn edge_case(i: u64) -> Case {
+    let window = edge_window(i);
+    Case {
+        register: edge_register(i / 625),
+        window: window,
+        state: 0,
+    }
+}
+
 fn flag(clip: bool) -> u64
     ensures { λ r. ⌜ r ≤ 1 ⌝ }
 {
@@ -109,27 +119,23 @@ fn add(tally: Tally, kernel: u8, register: u32, window: [i16; 4]) -> Tally {
     }
 }
 
-fn over_drawn(kernel: u8) -> Tally {
+// The i-th case: drawn from the state, or the i-th at the edges.
+fn case_of(drawn: bool, i: u64, state: u64) -> Case {
+    if drawn {
+        return drawn_case(state);
+    }
+    edge_case(i)
+}
+
+fn over(kernel: u8, drawn: bool, cases: u64) -> Tally {
     let mut tally = Tally { hash: 0, clips: 0 };
     let mut state: u64 = 1;
     let mut i: u64 = 0;
-    while i < 20000 {
-        let case = drawn_case(state);
+    while i < cases {
+        let case = case_of(drawn, i, state);
         let window = case.window;
         tally = add(tally, kernel, case.register, window);
         state = case.state;
-        i += 1;
-    }
-    tally
-}
-
-// Every register with every window.
-fn over_edges(kernel: u8) -> Tally {
-    let mut tally = Tally { hash: 0, clips: 0 };
-    let mut i: u64 = 0;
-    while i < 5000 {
-        let window = edge_window(i);
-        tally = add(tally, kernel, edge_register(i / 625), window);
         i += 1;
     }
     tally
@@ -147,12 +153,12 @@ fn show(kernel: u8, cases: &[u8], tally: Tally) {
 }
 
 fn main() {
-    show(0, b" drawn: 20000", over_drawn(0));
-    show(1, b" drawn: 20000", over_drawn(1));
-    show(2, b" drawn: 20000", over_drawn(2));
-    show(3, b" drawn: 20000", over_drawn(3));
-    show(0, b" edges: 5000", over_edges(0));
-    show(1, b" edges: 5000", over_edges(1));
-    show(2, b" edges: 5000", over_edges(2));
-    show(3, b" edges: 5000", over_edges(3));
+    show(0, b" drawn: 20000", over(0, true, 20000));
+    show(1, b" drawn: 20000", over(1, true, 20000));
+    show(2, b" drawn: 20000", over(2, true, 20000));
+    show(3, b" drawn: 20000", over(3, true, 20000));
+    show(0, b" edges: 5000", over(0, false, 5000));
+    show(1, b" edges: 5000", over(1, false, 5000));
+    show(2, b" edges: 5000", over(2, false, 5000));
+    show(3, b" edges: 5000", over(3, false, 5000));
 }

@@ -39,16 +39,16 @@ module _ (c : tie.After-short-numerator) where
 
 -- by kernel
 first : (c : tie.Then1) → spare (kernelOf (k (c .before))) ≡ 2 ^ 28
-first c = linear {k = k (c .before)} (c .if1 .taken) .spare-of
+first c = linear (k (c .before)) (c .if1 .taken) .spare-of
 
 last : (c : tie.Else2) → spare (kernelOf (k (c .before .before))) ≡ 2 ^ 14
-last c = let b = c .before .before in quadratic {k = k b} (s b .pre .0) (c .before .if1 .left) (c .if2 .left) .spare-of
+last c = let b = c .before .before in quadratic (k b) (s b .pre .0) (c .before .if1 .left) (c .if2 .left) .spare-of
 
 returns : tie.Need-returns
 returns c = toZ-ofZ (restored-fits (c .before) (2 ^ 28) (first c)) ∙ restored (c .before) (2 ^ 28) (first c)
 
 returns-2 : tie.Need-returns-2
-returns-2 c = let b = c .before .before in sym (*ℤ-one (stored (n b))) ∙ restored b 1 (cubic {k = k b} (c .if2 .taken) .spare-of)
+returns-2 c = let b = c .before .before in sym (*ℤ-one (stored (n b))) ∙ restored b 1 (cubic (k b) (c .if2 .taken) .spare-of)
 
 returns-3 : tie.Need-returns-3
 returns-3 c = toZ-ofZ (restored-fits (c .before .before) (2 ^ 14) (last c)) ∙ restored (c .before .before) (2 ^ 14) (last c)

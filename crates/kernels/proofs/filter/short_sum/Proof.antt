@@ -88,7 +88,7 @@ module _ (c : tie.After-column4) where
 returns : tie.Need-returns
 returns c =
     let b = c .before .before in
-    let scaled = linear {k = k b} (c .before .if1 .taken) in
+    let scaled = linear (k b) (c .before .if1 .taken) in
     let l : kernelOf (k b) .degree ≡ 1 = scaled .degree-of in
     let z2 = none b 2 (lit< tt) (omega arith) (r2 b ∙ b .before .column3 .ensures .0) in
     let z3 = none b 3 (lit< tt) (omega arith) (r3 b ∙ b .column4 .ensures .0) in
@@ -98,12 +98,12 @@ returns c =
 returns-2 : tie.Need-returns-2
 returns-2 c =
     let b = c .before .before .before in
-    answer b (c .cubic .result) 1 (sfits-of (c .cubic .ok)) (cubic {k = k b} (c .before .if2 .taken) .spare-of) (*ℤ-one (c .cubic .result) ∙ c .cubic .ensures)
+    answer b (c .cubic .result) 1 (sfits-of (c .cubic .ok)) (cubic (k b) (c .before .if2 .taken) .spare-of) (*ℤ-one (c .cubic .result) ∙ c .cubic .ensures)
 
 returns-3 : tie.Need-returns-3
 returns-3 c =
     let b = c .before .before .before in
-    let scaled = quadratic {k = k b} (s b .pre .0) (c .before .before .if1 .left) (c .before .if2 .left) in
+    let scaled = quadratic (k b) (s b .pre .0) (c .before .before .if1 .left) (c .before .if2 .left) in
     let l : kernelOf (k b) .degree ≡ 2 = scaled .degree-of in
     let z3 = none b 3 (lit< tt) (omega arith) (r3 b ∙ b .column4 .ensures .0) in
     answer b (c .quadratic .result) (2 ^ 14) (sfits-of (c .quadratic .ok)) (scaled .spare-of)

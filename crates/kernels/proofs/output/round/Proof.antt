@@ -37,14 +37,14 @@ returns c =
     let s = c .before in
     r-cast w64 (r-shr (2 ^ 14) (lit< tt) (reads (known s) (with (2 ^ 13)) tt)) tt .same
     ∙ sym (whole-even (n s) (2 ^ 13) (lit< tt))
-    ∙ sym (linear {k = k s} (c .if1 .taken) .whole-of (n s))
+    ∙ sym (linear (k s) (c .if1 .taken) .whole-of (n s))
 
 returns-3 : tie.Need-returns-3
 returns-3 c =
     let s = c .before .before in
     r-cast w64 (r-shr (2 ^ 29) (lit< tt) (reads (known s) (with (2 ^ 28)) tt)) tt .same
     ∙ sym (whole-even (n s) (2 ^ 28) (lit< tt))
-    ∙ sym (quadratic {k = k s} (s .pre .0) (c .before .if1 .left) (c .if2 .left) .whole-of (n s))
+    ∙ sym (quadratic (k s) (s .pre .0) (c .before .if1 .left) (c .if2 .left) .whole-of (n s))
 
 -- in sixths
 module _ (s : tie.Start) where
@@ -64,7 +64,7 @@ returns-2 c =
     ∙ ap (λ (z : ℤ). floorDiv z 6) (shifted s .same)
     ∙ floor-floor (n s +ℤ pos (3 * 2 ^ 42)) (2 ^ 42) 6
     ∙ sym (whole-even (n s) (3 * 2 ^ 42) (lit< tt))
-    ∙ sym (cubic {k = k s} (c .before .if2 .taken) .whole-of (n s))
+    ∙ sym (cubic (k s) (c .before .if2 .taken) .whole-of (n s))
 
 add-result : tie.Need-add-result
 add-result c = fits (known (c .before)) (with (2 ^ 13)) tt
