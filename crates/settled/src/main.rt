@@ -1,5 +1,7 @@
-// Runs the settled examples of document 01 that are not starred, so far those on ratios, and then settings at the edges of the rules, and prints what it finds, a line for
-// each. The file `stdout` has what document 01 says. The starred examples are theorems, in specs/Starred.antt.
+// Runs the settled examples of document 01 that are not starred, those on ratios and the one on empty buffers, and then settings at the edges of the rules, and prints what it
+// finds, a line for each. The file `stdout` has what document 01 says. The starred examples are theorems, in specs/Starred.antt.
+use converter::End;
+use converter::State;
 use libc::STDOUT_FILENO;
 use oscillator::Setting;
 use oscillator::WordAnswer;
@@ -27,6 +29,31 @@ fn settled_ratios() {
     );
     show(b"ratio 4 + 2^-33", Setting::Ratio(4.0 + 1.0 / 8589934592.0));
     show(b"ratio 2^1000", Setting::Ratio(1.0715086071862673e301));
+}
+
+// How a feed of no samples with no space ends.
+fn show_empty(description: &[u8], state: State) {
+    io::write_all(STDOUT_FILENO, description);
+    let input = [0i16; 1];
+    let mut output = [0i16; 1];
+    match converter::feed(state, &input[..0], &mut output[..0]).end {
+        End::Hungry => {
+            io::write_all(STDOUT_FILENO, b": HUNGRY\n");
+        }
+        End::Full => {
+            io::write_all(STDOUT_FILENO, b": FULL\n");
+        }
+    }
+}
+
+// From a fresh start two samples are needed, and after two none is.
+fn settled_empty() {
+    let s = converter::start(0, Setting::Word(4294967296), 0).state;
+    show_empty(b"empty buffers, two samples needed", s);
+    let input = [5i16; 2];
+    let mut output = [0i16; 1];
+    let f = converter::feed(s, &input, &mut output[..0]);
+    show_empty(b"empty buffers, none needed", f.state);
 }
 
 // Zeros, the smallest and the largest float, and what is not finite.
@@ -87,6 +114,7 @@ fn rates() {
 
 fn main() {
     settled_ratios();
+    settled_empty();
     extreme_ratios();
     rounded_ratios();
     words();

@@ -1,0 +1,10 @@
+pub mod States
+pub mod Turns
+pub mod Runs
+pub mod Feeds
+pub mod Count
+pub mod PaperRun
+pub mod Follows
+pub mod Third
+pub mod Passing
+pub mod Closing

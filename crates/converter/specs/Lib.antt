@@ -1,0 +1,5 @@
+pub mod Start
+pub mod Feeding
+pub mod Paper
+pub mod Demand
+pub mod Pass

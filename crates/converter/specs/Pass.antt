@@ -1,0 +1,92 @@
+-- What the inner functions of feed promise one another. No other contract cites this file, and a reader of the definitions can pass it over.
+--
+-- A pass sees the samples at once: the newest four are four places of a list, and a run of the rule goes on from a place b of it.
+use mathlib.Core.Path.{_≡_}
+use mathlib.Core.Bool.{cond}
+use mathlib.Core.List.{List, [], _∷_, _++_}
+use Prim.Native.Nat.{ℕ, _+_, _-_, _≤_, min}
+use lib.Dec.{leb}
+use lib.IntN.{ℤ, pos}
+use lib.ListN.{length, take, drop, getD}
+use Rattle.converter.specs.declared.state.State.{State}
+use Rattle.converter.specs.declared.pass.Progress.{Progress}
+use Rattle.converter.specs.Feeding.{HUNGRY, FULL, Ran, rule, Answer}
+
+-- the four samples from place b on
+abbrev pub windowFrom : List ℤ → ℕ → List ℤ
+windowFrom xs b = getD xs b (pos 0) ∷ getD xs (b + 1) (pos 0) ∷ getD xs (b + 2) (pos 0) ∷ getD xs (b + 3) (pos 0) ∷ []
+
+-- the state s with another register, needed count and window
+abbrev pub gone : State → ℕ → ℕ → List ℤ → State
+gone s q n w = record { kernel = s .kernel; needed = n; register = q; word = s .word; window = w }
+
+-- the last place of a window in xs, and the place that a window has reached whose next output stands at `at`
+abbrev pub lastPlace : List ℤ → ℕ
+lastPlace xs = length xs - 4
+
+abbrev pub reached : List ℤ → ℕ → ℕ
+reached xs at = lastPlace xs - (lastPlace xs - at)
+
+-- a run of the rule as it lies in a buffer: each output x as g x (one sample, or two bytes)
+unfoldable pub laidBy : {A : Type 0} → (ℤ → List A) → List ℤ → List A
+laidBy g [] = []
+laidBy g (x ∷ xs) = g x ++ laidBy g xs
+
+pub record Laid (A : Type 0) : Type 0 where
+  pub state : State
+  pub taken : ℕ
+  pub outputs : List A
+  pub clips : ℕ
+  pub end : ℕ
+
+abbrev pub laid : {A : Type 0} → (ℤ → List A) → Ran → Laid A
+laid g r = record { state = r .state; taken = r .taken; outputs = laidBy g (r .outputs); clips = r .clips; end = r .end }
+
+-- t samples taken, ys written and c clips counted, and then the run r
+abbrev pub following : {A : Type 0} → ℕ → List A → ℕ → Laid A → Laid A
+following t ys c r = record { state = r .state; taken = t + r .taken; outputs = ys ++ r .outputs; clips = c + r .clips; end = r .end }
+
+-- the run from a window at place b of xs, with k samples needed; more follows xs
+abbrev pub onFrom : List ℤ → List ℤ → ℕ → State → ℕ → ℕ → ℕ → Ran
+onFrom more xs n s q b k = rule (drop (b + 4) xs ++ more) n (gone s q k (windowFrom xs b))
+
+-- What a pass over xs did: whatever follows xs, the run from its front is what was done and then the run from here.
+pub record Passed {A : Type 0} (g : ℤ → List A) (s : State) (xs : List ℤ) (space : ℕ) (ys : List A) (q at written clips : ℕ) : Type 0 where
+  pub near : at ≤ length xs
+  pub room : written ≤ space
+  pub few : clips ≤ written
+  pub runs : (more : List ℤ) → laid g (onFrom more xs space s (s .register) 0 (s .needed)) ≡ following (reached xs at) ys clips (laid g (onFrom more xs (space - written) s q (reached xs at) (at - lastPlace xs)))
+
+abbrev pub one : ℤ → List ℤ
+one x = x ∷ []
+
+-- a state without its window, which is the front of the samples
+abbrev pub passing : ℕ → ℕ → ℕ → ℕ → State
+passing k w q n = record { kernel = k; needed = n; register = q; word = w; window = [] }
+
+-- the same over a buffer of samples, which held `old` and holds `left`
+pub record PassRight (s : State) (xs old : List ℤ) (r : Progress) (left : List ℤ) : Type 0 where
+  pub long : length left ≡ length old
+  pub kept : drop (r .written) left ≡ drop (r .written) old
+  pub stops : r .at ≤ lastPlace xs → length old ≤ r .written
+  pub passed : Passed one s xs (length old) (take (r .written) left) (r .register) (r .at) (r .written) (r .clips)
+
+-- what a feed answers whose last pass over xs got as far as r, with t samples, w outputs and c clips before it
+abbrev pub closing : State → List ℤ → Progress → ℕ → ℕ → ℕ → Answer
+closing s xs r t w c = record {
+  state = gone s (r .register) (r .at - lastPlace xs) (windowFrom xs (reached xs (r .at)));
+  taken = t + reached xs (r .at);
+  written = w + r .written;
+  clips = c + r .clips;
+  end = cond (leb (r .at) (lastPlace xs)) FULL HUNGRY;
+  refusal = 0;
+}
+
+-- how many of the first four samples there are
+abbrev pub headOf : List ℤ → ℕ
+headOf xs = min 4 (length xs)
+
+-- a window and the four samples that follow it, zeros where there are none
+abbrev pub joinedOf : List ℤ → List ℤ → List ℤ
+joinedOf w xs =
+    getD w 0 (pos 0) ∷ getD w 1 (pos 0) ∷ getD w 2 (pos 0) ∷ getD w 3 (pos 0) ∷ getD xs 0 (pos 0) ∷ getD xs 1 (pos 0) ∷ getD xs 2 (pos 0) ∷ getD xs 3 (pos 0) ∷ []

@@ -1,0 +1,12 @@
+// The converter: its state, start, retune and block feeding. The definitions that the contracts cite stand in specs/, with the statement of demand 3.
+mod feeding;
+mod pass;
+mod state;
+
+pub use feeding::End;
+pub use feeding::Fed;
+pub use feeding::feed;
+pub use state::Retuned;
+pub use state::Started;
+pub use state::State;
+pub use state::start;

@@ -1,0 +1,82 @@
+// A pass: outputs written one after another over samples that lie in one slice, so that the newest four samples of an output are a part of it and nothing is shifted.
+ghost use mathlib.Core.Path.{_≡_};
+ghost use Prim.Native.Nat.{_+_, _^_, _≤_, _<_};
+ghost use lib.ListN.{length};
+ghost use Rattle.converter.specs.Pass.{windowFrom, passing, PassRight};
+
+// Where a pass stands: the register and the place of the next output's window, past the last place where samples are still needed, and what was written.
+pub struct Progress {
+    pub register: u32,
+    pub at: usize,
+    pub written: usize,
+    pub clips: usize,
+}
+
+// The four samples from a place on.
+pub fn window_at(samples: &[i16], at: usize) -> [i16; 4]
+    requires { ⌜ at + 4 ≤ length (now samples) ⌝ }
+    ensures { λ r. ⌜ r ≡ windowFrom (now (samples .entry)) at ⌝ }
+{
+    [
+        samples[at],
+        samples[at + 1],
+        samples[at + 2],
+        samples[at + 3],
+    ]
+}
+
+// Writes outputs while the samples and the space last. The window is at the front of the samples, and `needed` more are taken before the first output.
+fn pass(
+    kernel: u8,
+    word: u64,
+    register: u32,
+    needed: u8,
+    samples: &[i16],
+    output: &mut [i16],
+) -> Progress
+    requires { ⌜ (word ≤ 2 ^ 34) × (needed ≤ 4) × (4 ≤ length (now samples)) ⌝ }
+    ensures { λ r. ⌜ PassRight (passing kernel word register needed) (now (samples .entry)) (now (output .entry)) r (now (output .exit)) ⌝ }
+{
+    let nearest = kernels::nearest(kernel);
+    let end = samples.len() - 4;
+    let mut register = register;
+    let mut at = needed as usize;
+    let mut written: usize = 0;
+    let mut clips: usize = 0;
+    while at <= end && written < output.len() {
+        let e = kernels::evaluate(kernel, register, window_at(samples, at));
+        let v = e.value;
+        output[written] = v;
+        written = written + 1;
+        clips = clips + e.clip as usize;
+        let new = oscillator::step(register, word);
+        at = at + oscillator::advance(nearest, register, new, word) as usize;
+        register = new;
+    }
+    Progress {
+        register: register,
+        at: at,
+        written: written,
+        clips: clips,
+    }
+}
+
+// A pass with the kernel's number written out. No other function calls `pass`, so the compiler makes each of the four calls a loop of its own here, in which the kernel is fixed.
+pub fn pass_by(
+    kernel: u8,
+    word: u64,
+    register: u32,
+    needed: u8,
+    samples: &[i16],
+    output: &mut [i16],
+) -> Progress
+    requires { ⌜ (kernel < 4) × (word ≤ 2 ^ 34) × (needed ≤ 4) × (4 ≤ length (now samples)) ⌝ }
+    ensures { λ r. ⌜ PassRight (passing kernel word register needed) (now (samples .entry)) (now (output .entry)) r (now (output .exit)) ⌝ }
+{
+    match kernel {
+        0 => pass(0, word, register, needed, samples, output),
+        1 => pass(1, word, register, needed, samples, output),
+        2 => pass(2, word, register, needed, samples, output),
+        _ => pass(3, word, register, needed, samples, output),
+    }
+}
