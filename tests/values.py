@@ -96,10 +96,11 @@ def settled():          # "Settled examples"
     assert position(1, 0x7FFFFFFF) == (0, 8191) and position(1, 0x80000000) == (1, -8192)
     assert position(0, 0x3FFFF) == (0, 0) and position(0, 0x40000) == (0, 1)
 
-settled()
-if len(sys.argv) > 1:
-    print(*output(int(sys.argv[1]), int(sys.argv[2], 16), [int(a) for a in sys.argv[3:]]))
-else:
-    for name, cases in (("drawn", drawn), ("edges", edges)):
-        for k in range(4):
-            line(k, name, cases())
+if __name__ == "__main__":   # runs.py uses the functions above
+    settled()
+    if len(sys.argv) > 1:
+        print(*output(int(sys.argv[1]), int(sys.argv[2], 16), [int(a) for a in sys.argv[3:]]))
+    else:
+        for name, cases in (("drawn", drawn), ("edges", edges)):
+            for k in range(4):
+                line(k, name, cases())

@@ -158,7 +158,7 @@ refuses s input old bad e = record { answer = rw bad e; buffer = rw bad }
 fills : {s : State} {xs old left : List ℤ} {r : Progress} → PassRight s xs old r left
     → (length (take (r .written) left) ≡ r .written) × (left ≡ take (r .written) left ++ drop (r .written) old)
 fills {s} {xs} {old} {left} {r} p =
-    (length-take-le (r .written) left (omega (arith, p .long, p .passed .room)), rw (← p .kept) (sym (take-append-drop (r .written) left)))
+    (length-take-le (r .written) left (omega (arith, p .stands .long, p .stands .passed .room)), rw (← p .stands .kept) (sym (take-append-drop (r .written) left)))
 
 -- a buffer from place w on, as it is lent: that is all of the rest
 abbrev pub lent : List ℤ → ℕ → List ℤ
@@ -174,8 +174,8 @@ past-lent l w = drop-of-length-le (drop w l) {i = length l - w} (omega (arith, l
 pub totals : {s s' : State} {xs xs' old mid left : List ℤ} {r q : Progress} → PassRight s xs old r mid → PassRight s' xs' (lent mid (r .written)) q left
     → (r .written + q .written ≤ length old) × (r .clips + q .clips ≤ length old)
 totals {s} {s'} {xs} {xs'} {old} {mid} {left} {r} {q} p p' =
-    let a = p .passed in
-    let b = rw (lent-all mid (r .written), length-drop (r .written) mid) at (p' .passed) in
+    let a = p .stands .passed in
+    let b = rw (lent-all mid (r .written), length-drop (r .written) mid) at (p' .stands .passed) in
     (omega arith, omega arith)
 
 module _ (s : State) (xs : List ℤ) {J old : List ℤ} {r : Progress} {f : Fed} (good : isState s ≡ true) (wide : length (s .window) ≡ 4) (j : J ≡ joint s xs) where
@@ -184,7 +184,7 @@ module _ (s : State) (xs : List ℤ) {J old : List ℤ} {r : Progress} {f : Fed}
   first-fed p few e =
       let first = rw j at p in
       let b = fills first in
-      answers (closing s (joint s xs) r 0 0 0) good (first-ends s xs r wide (first .passed) (first .stops) (rw j at few) 0)
+      answers (closing s (joint s xs) r 0 0 0) good (first-ends s xs r wide (first .stands .passed) (first .stops) (rw j at few) 0)
       (b .0 ∙ sym (zero-add (r .written))) refl (rw j at e) (rw (b .0) (b .1))
 
   -- a feed that ends with the second pass, to which the rest of the buffer was lent
@@ -192,14 +192,14 @@ module _ (s : State) (xs : List ℤ) {J old : List ℤ} {r : Progress} {f : Fed}
       → answerOf f ≡ closing s xs q 4 (r .written) (r .clips) → FedRight s xs old f (take (r .written) mid ++ (left ++ drop (length mid - r .written) (drop (r .written) mid)))
   rest-fed {mid} {left} {q} p past many p' e =
       let w : ℕ = r .written in
-      let space : length (drop w mid) ≡ length old - w = omega (arith, length-drop w mid, p .long) in
+      let space : length (drop w mid) ≡ length old - w = omega (arith, length-drop w mid, p .stands .long) in
       let first = rw j at p in
       let second = rw (lent-all mid w) at p' in
       let b = fills first in
       let b' = fills second in
       let n : length (take w mid ++ take (q .written) left) ≡ w + q .written = rw (length-append, b .0, b' .0) in
       let l : take w mid ++ left ≡ over (take w mid ++ take (q .written) left) old =
-      rw (n, append-assoc, ← drop-drop (q .written) w old, ← p .kept) (ap (λ (l : List ℤ). take w mid ++ l) (b' .1)) in
+      rw (n, append-assoc, ← drop-drop (q .written) w old, ← p .stands .kept) (ap (λ (l : List ℤ). take w mid ++ l) (b' .1)) in
       rw (past-lent mid w, append-nil left)
       (answers (closing s xs q 4 w (r .clips)) good
-      (rest-ends s xs r wide (first .passed) q many (rw j at past) (rw space at (second .passed)) (rw space at (second .stops)) w) n refl e l)
+      (rest-ends s xs r wide (first .stands .passed) q many (rw j at past) (rw space at (second .stands .passed)) (rw space at (second .stops)) w) n refl e l)

@@ -1,5 +1,5 @@
 -- A pass over samples that lie in one list: how it begins, and how an output takes it on. The laws hold for every way g in which an output lies in a buffer. Assumes nothing.
-use mathlib.Core.Path.{_≡_, refl, sym, ap, _∙_}
+use mathlib.Core.Path.{_≡_, refl, sym, ap, subst, _∙_}
 use mathlib.Core.Bool.{Bool, true, false, cond}
 use mathlib.Core.List.{List, [], _∷_, _++_, append-nil, append-assoc}
 use Prim.Native.Nat.{ℕ, zero, suc, _+_, _-_, _^_, _≤_, _<_}
@@ -15,8 +15,9 @@ use Rattle.oscillator.proofs.Positions.{advance-le, stepped-below}
 use Rattle.kernels.specs.Kernel.{kernelOf}
 use Rattle.kernels.specs.Value.{outputOf, clipOf}
 use Rattle.converter.specs.declared.state.State.{State}
+use Rattle.converter.specs.declared.pass.Progress.{Progress}
 use Rattle.converter.specs.Feeding.{outputNext, clipNext, advanced, taking, Ran, wrote, took, rule}
-use Rattle.converter.specs.Pass.{windowFrom, gone, lastPlace, reached, laidBy, Laid, laid, following, onFrom, Passed, one}
+use Rattle.converter.specs.Pass.{windowFrom, gone, lastPlace, reached, laidBy, Laid, laid, following, onFrom, Passed, one, Passing, PassingAt}
 use Rattle.converter.proofs.Turns.{rule-write, rule-take}
 
 -- the window one sample on
@@ -156,13 +157,7 @@ module _ {A : Type 0} (g : ℤ → List A) where
       unfolding advanced
       pass-turn {clip} en ew ev eq ek ey = rw (ey, byte-is clip, ev .0, ev .1, ew, ek, en, eq) turn
 
--- ---- over a buffer of samples, which held `old` and holds `left`
-pub record Passing (s : State) (xs old left : List ℤ) (q at written clips : ℕ) : Type 0 where
-  pub low : q < 2 ^ 32
-  pub long : length left ≡ length old
-  pub kept : drop written left ≡ drop written old
-  pub passed : Passed one s xs (length old) (take written left) q at written clips
-
+-- ---- over a buffer of samples
 module _ {s : State} {xs old : List ℤ} (four : 4 ≤ length xs) where
   pub passing-begins : s .register < 2 ^ 32 → s .needed ≤ 4 → Passing s xs old old (s .register) (s .needed) 0 0
   passing-begins l h = record { low = l; long = refl; kept = refl; passed = pass-begins one s xs (length old) four h }
@@ -184,4 +179,49 @@ module _ {s : State} {xs old : List ℤ} (four : 4 ≤ length xs) where
         long = length-set left written z ∙ p .long;
         kept = drop-set-lt (written + 1) left written z (omega arith) ∙ sym (drop-drop 1 written left) ∙ ap (drop 1) (p .kept) ∙ drop-drop 1 written old;
         passed = pass-turn one s xs (length old) four (p .passed) inside (omega arith) (p .low) below en ew ev eq ek (more ∙ ap (λ x. take written left ++ one x) ez);
+      }
+
+-- ---- a stretch of a pass: where it stands that began at p, over the buffer `mid`
+pub record Stretching (k w : ℕ) (xs mid : List ℤ) (p : Progress) (left : List ℤ) (q at written : ℕ) (held : Bool) : Type 0 where
+  pub low : q < 2 ^ 32
+  pub near : at ≤ length xs
+  pub long : length left ≡ length mid
+  pub room : written ≤ length left
+  pub more : p .written + boolByte held ≤ written
+  pub goes-on : (s : State) (old : List ℤ) → s .kernel ≡ k → s .word ≡ w → PassingAt s xs old p mid → Passing s xs old left q at written (p .clips + boolByte held)
+
+module _ {k w : ℕ} {xs mid : List ℤ} {p : Progress} where
+  pub stretching-begins : p .register < 2 ^ 32 → p .at ≤ length xs → p .written ≤ length mid → Stretching k w xs mid p mid (p .register) (p .at) (p .written) false
+  stretching-begins l n r = record {
+    low = l;
+    near = n;
+    long = refl;
+    room = r;
+    more = omega arith;
+    goes-on = λ s old ek ew h. subst (Passing s xs old mid (p .register) (p .at) (p .written)) (sym (add-zero (p .clips))) h;
+  }
+
+  -- an output written that may be held, after none that was; z is the value as it is stored
+  pub stretching-turn : 4 ≤ length xs → w ≤ 2 ^ 34 → {left : List ℤ} {q at written : ℕ} {held : Bool} → Stretching k w xs mid p left q at written held
+      → held ≡ false → at ≤ lastPlace xs → written < length left
+      → {nearest clip : Bool} {window : List ℤ} {v z : ℤ} {q' j : ℕ}
+      → nearest ≡ kernelOf k .nearest
+      → window ≡ windowFrom xs at
+      → (v ≡ outputOf (kernelOf k) q window) × (clip ≡ clipOf (kernelOf k) q window)
+      → z ≡ v
+      → q' ≡ stepped q w
+      → j ≡ advanceOf nearest q q' w
+      → Stretching k w xs mid p (set left written z) q' (at + j) (written + 1) clip
+  stretching-turn four below {left} {q} {at} {written} {held} t none inside room {nearest} {clip} {window} {v} {z} {q'} {j} en ew ev ez eq ej =
+      let far : j ≤ 4 = rw (ej, en, eq) (advance-le (kernelOf k .nearest) q w (t .low) below) in
+      record {
+        low = rw eq (stepped-below q w);
+        near = omega arith;
+        long = length-set left written z ∙ t .long;
+        room = omega (arith, length-set left written z);
+        more = omega (arith, t .more, byte-is clip, clip-le clip);
+        goes-on = λ s old sk sw h.
+            let c : p .clips + boolByte held ≡ p .clips = rw none (add-zero (p .clips)) in
+            let g : Passing s xs old left q at written (p .clips) = subst (Passing s xs old left q at written) c (t .goes-on s old sk sw h) in
+            passing-turn four g inside room (rw sw below) {nearest = nearest} {clip = clip} {window = window} {v = v} {z = z} {q' = q'} {k = j} (rw sk en) ew (rw sk ev) ez (rw sw eq) (rw sw ej);
       }

@@ -4,7 +4,7 @@
 use mathlib.Core.Path.{_≡_}
 use mathlib.Core.Bool.{cond}
 use mathlib.Core.List.{List, [], _∷_, _++_}
-use Prim.Native.Nat.{ℕ, _+_, _-_, _≤_, min}
+use Prim.Native.Nat.{ℕ, _+_, _-_, _^_, _≤_, _<_, min}
 use lib.Dec.{leb}
 use lib.IntN.{ℤ, pos}
 use lib.ListN.{length, take, drop, getD}
@@ -65,11 +65,26 @@ abbrev pub passing : ℕ → ℕ → ℕ → ℕ → State
 passing k w q n = record { kernel = k; needed = n; register = q; word = w; window = [] }
 
 -- the same over a buffer of samples, which held `old` and holds `left`
-pub record PassRight (s : State) (xs old : List ℤ) (r : Progress) (left : List ℤ) : Type 0 where
+pub record Passing (s : State) (xs old left : List ℤ) (q at written clips : ℕ) : Type 0 where
+  pub low : q < 2 ^ 32
   pub long : length left ≡ length old
-  pub kept : drop (r .written) left ≡ drop (r .written) old
+  pub kept : drop written left ≡ drop written old
+  pub passed : Passed one s xs (length old) (take written left) q at written clips
+
+abbrev pub PassingAt : State → List ℤ → List ℤ → Progress → List ℤ → Type 0
+PassingAt s xs old r left = Passing s xs old left (r .register) (r .at) (r .written) (r .clips)
+
+-- What a stretch did: any pass at this kernel and word that stood at p, the buffer being `mid`, stands at r, the buffer being `left`. A clip more is an output more, and no clip more
+-- means that the samples or the space are spent.
+pub record StretchRight (k w : ℕ) (xs mid : List ℤ) (p r : Progress) (left : List ℤ) : Type 0 where
+  pub goes-on : (s : State) (old : List ℤ) → s .kernel ≡ k → s .word ≡ w → PassingAt s xs old p mid → PassingAt s xs old r left
+  pub counts : (p .clips ≤ r .clips) × (p .written + r .clips ≤ r .written + p .clips)
+  pub stops : r .clips ≡ p .clips → r .at ≤ lastPlace xs → length left ≤ r .written
+
+-- what a pass did
+pub record PassRight (s : State) (xs old : List ℤ) (r : Progress) (left : List ℤ) : Type 0 where
+  pub stands : PassingAt s xs old r left
   pub stops : r .at ≤ lastPlace xs → length old ≤ r .written
-  pub passed : Passed one s xs (length old) (take (r .written) left) (r .register) (r .at) (r .written) (r .clips)
 
 -- what a feed answers whose last pass over xs got as far as r, with t samples, w outputs and c clips before it
 abbrev pub closing : State → List ℤ → Progress → ℕ → ℕ → ℕ → Answer

@@ -2,7 +2,7 @@
 ghost use mathlib.Core.Path.{_≡_};
 ghost use Prim.Native.Nat.{_+_, _^_, _≤_, _<_};
 ghost use lib.ListN.{length};
-ghost use Rattle.converter.specs.Pass.{windowFrom, passing, PassRight};
+ghost use Rattle.converter.specs.Pass.{windowFrom, passing, StretchRight, PassRight};
 
 // Where a pass stands: the register and the place of the next output's window, past the last place where samples are still needed, and what was written.
 pub struct Progress {
@@ -25,6 +25,35 @@ pub fn window_at(samples: &[i16], at: usize) -> [i16; 4]
     ]
 }
 
+// Goes on with a pass up to an output that is held, or until the samples or the space are spent. Outputs are seldom held, so the loop has no count of clips in it.
+fn stretch(kernel: u8, word: u64, from: Progress, samples: &[i16], output: &mut [i16]) -> Progress
+    requires { ⌜ (word ≤ 2 ^ 34) × (4 ≤ length (now samples)) × (from .at ≤ length (now samples)) × (from .clips ≤ from .written) × (from .written ≤ length (now output)) ⌝ }
+    ensures { λ r. ⌜ StretchRight kernel word (now (samples .entry)) (now (output .entry)) from r (now (output .exit)) ⌝ }
+{
+    let nearest = kernels::nearest(kernel);
+    let end = samples.len() - 4;
+    let mut register = from.register;
+    let mut at = from.at;
+    let mut written = from.written;
+    let mut held = false;
+    while at <= end && written < output.len() && !held {
+        let e = kernels::evaluate(kernel, register, window_at(samples, at));
+        let v = e.value;
+        output[written] = v;
+        written = written + 1;
+        held = e.clip;
+        let new = oscillator::step(register, word);
+        at = at + oscillator::advance(nearest, register, new, word) as usize;
+        register = new;
+    }
+    Progress {
+        register: register,
+        at: at,
+        written: written,
+        clips: from.clips + held as usize,
+    }
+}
+
 // Writes outputs while the samples and the space last. The window is at the front of the samples, and `needed` more are taken before the first output.
 fn pass(
     kernel: u8,
@@ -37,28 +66,19 @@ fn pass(
     requires { ⌜ (word ≤ 2 ^ 34) × (needed ≤ 4) × (4 ≤ length (now samples)) ⌝ }
     ensures { λ r. ⌜ PassRight (passing kernel word register needed) (now (samples .entry)) (now (output .entry)) r (now (output .exit)) ⌝ }
 {
-    let nearest = kernels::nearest(kernel);
-    let end = samples.len() - 4;
-    let mut register = register;
-    let mut at = needed as usize;
-    let mut written: usize = 0;
-    let mut clips: usize = 0;
-    while at <= end && written < output.len() {
-        let e = kernels::evaluate(kernel, register, window_at(samples, at));
-        let v = e.value;
-        output[written] = v;
-        written = written + 1;
-        clips = clips + e.clip as usize;
-        let new = oscillator::step(register, word);
-        at = at + oscillator::advance(nearest, register, new, word) as usize;
-        register = new;
-    }
-    Progress {
+    let mut p = Progress {
         register: register,
-        at: at,
-        written: written,
-        clips: clips,
+        at: needed as usize,
+        written: 0,
+        clips: 0,
+    };
+    let mut more = true;
+    while more {
+        let q = stretch(kernel, word, p, samples, output);
+        more = q.clips > p.clips;
+        p = q;
     }
+    p
 }
 
 // A pass with the kernel's number written out. No other function calls `pass`, so the compiler makes each of the four calls a loop of its own here, in which the kernel is fixed.

@@ -36,7 +36,9 @@ fn show_empty(description: &[u8], state: State) {
     io::write_all(STDOUT_FILENO, description);
     let input = [0i16; 1];
     let mut output = [0i16; 1];
-    match converter::feed(state, &input[..0], &mut output[..0]).end {
+    let f = converter::feed(state, &input[..0], &mut output[..0]);
+    let end = f.end;
+    match end {
         End::Hungry => {
             io::write_all(STDOUT_FILENO, b": HUNGRY\n");
         }

@@ -53,7 +53,7 @@ module _ (c : tie.After-struct-known2) where
   far : (4 < first .pass-by .result .at) × (first .pass-by .result .at ≤ 8)
   far =
       let past = c .before .before .if1 .left in
-      (omega (arith, many, start .head .ensures), omega (arith, start .head .ensures, size start, first .pass-by .ensures .passed .near))
+      (omega (arith, many, start .head .ensures), omega (arith, start .head .ensures, size start, first .pass-by .ensures .stands .passed .near))
 
 returns : tie.Need-returns
 returns c =
@@ -90,7 +90,7 @@ pass-by-requires : tie.Need-pass-by-requires
 pass-by-requires c κs = let z = c .before .before in let h = sound z in (omega (arith, h .kernel), h .below, h .needed, omega (arith, size z))
 
 add-if1 : tie.Need-add-if1
-add-if1 c = let z = c .before .before .before .before .before in omega (arith, size z, z .head .ensures, c .before .before .pass-by .ensures .passed .near)
+add-if1 c = let z = c .before .before .before .before .before in omega (arith, size z, z .head .ensures, c .before .before .pass-by .ensures .stands .passed .near)
 
 array-share-prefix-joined-2 : tie.Need-array-share-prefix-joined-2
 array-share-prefix-joined-2 c = search needs
@@ -101,7 +101,7 @@ slice-aggregate-close c = sym (size (c .before .before .before .before .before .
 close-requires : tie.Need-close-requires
 close-requires c κs =
     let z = c .before .before .before .before .before .before .before in
-    let f = c .before .before .before .before .pass-by .ensures .passed in
+    let f = c .before .before .before .before .pass-by .ensures .stands .passed in
     (omega (arith, size z), f .near, omega arith, omega (arith, f .room), omega (arith, f .room, f .few))
 
 same-length : tie.Need-same-length
@@ -134,7 +134,7 @@ close-requires-2 c κs =
     let q = c .before .pass-by2 .ensures in
     let t = totals (first b .pass-by .ensures) q in
     let l = short (start b) in
-    (many b, q .passed .near, omega arith, omega (arith, t, l), omega (arith, t, l))
+    (many b, q .stands .passed .near, omega arith, omega (arith, t, l), omega (arith, t, l))
 
 same-length-2 : tie.Need-same-length-2
 same-length-2 c = search needs

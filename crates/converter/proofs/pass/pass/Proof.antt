@@ -1,119 +1,74 @@
--- `converter::pass::pass` meets its contract. The invariant is `Passing`: the run from the front is what was done and then the run from here. The measure is the space left.
--- Assumes nothing.
+-- `converter::pass::pass` meets its contract. The invariant: the pass stands at p, and where no stretch is to follow the samples or the space are spent. The measure is the space
+-- left, and one more where a stretch is to follow. Assumes nothing.
 use borrow.Author.Needs.{needs}
 use borrow.Author.Tests.{ltb-true, ltb-false}
-use Prim.Native.Nat.{_-_}
+use mathlib.Core.Path.{_≡_, refl}
+use mathlib.Core.Bool.{Bool, true, false}
+use mathlib.Core.List.{List}
+use Prim.Native.Nat.{ℕ, _+_, _-_, _≤_, _<_}
 use native.Mathlib.Omega.{arith}
+use lib.Dec.{ltb}
+use lib.IntN.{ℤ}
 use lib.ListN.{length}
-use mir.Syntax.{w16}
-use mir.Val.{SFits}
-use mir.Facts.{toZ-ofZ}
-use Rattle.converter.specs.Pass.{passing}
-use Rattle.converter.proofs.Passing.{byte-is, clip-le, Passing, passing-begins, passing-turn}
+use mir.Val.{boolByte}
+use denote.Ref.{now}
+use Rattle.converter.specs.declared.state.State.{State}
+use Rattle.converter.specs.declared.pass.Progress.{Progress}
+use Rattle.converter.specs.Pass.{lastPlace, passing, PassingAt}
+use Rattle.converter.proofs.Passing.{passing-begins}
 use Rattle.converter.proofs.pass.pass.Statement.{statement}
 use Rattle.converter.proofs.pass.pass.Tie as tie
 
+record Standing (s : State) (xs old : List ℤ) (p : Progress) (left : List ℤ) (more : Bool) : Type 0 where
+  pub stands : PassingAt s xs old p left
+  pub spent : more ≡ false → p .at ≤ lastPlace xs → length old ≤ p .written
+
 abbrev Inv-loop : tie.InvT-loop
-Inv-loop kernel word register needed samples output₀ nearest end register₀ at₀ written₀ clips₀ output register' at written clips =
-    Passing (passing kernel word register needed) samples output₀ output register' at written clips
+Inv-loop kernel word register needed samples output₀ p₀ more₀ output p more = Standing (passing kernel word register needed) samples output₀ p output more
 
 abbrev μ-loop : tie.MeasureT-loop
-μ-loop kernel word register needed samples output₀ nearest end register₀ at₀ written₀ clips₀ output register' at written clips = length output₀ - written
+μ-loop kernel word register needed samples output₀ p₀ more₀ output p more = length output₀ - p .written + boolByte more
 
 returns : tie.Need-returns Inv-loop μ-loop
-returns c = let i = c .before .before .loop .inv in record { long = i .long; kept = i .kept; stops = λ h. omega (arith, ltb-false); passed = i .passed }
-
-returns-2 : tie.Need-returns-2 Inv-loop μ-loop
-returns-2 c = let i = c .before .loop .inv in record { long = i .long; kept = i .kept; stops = λ h. omega arith; passed = i .passed }
+returns c = let i = c .before .loop .inv in record { stands = i .stands; stops = i .spent (c .loop-test .left) }
 
 loop-again : tie.Need-loop-again Inv-loop μ-loop
 loop-again c =
-    let e = c .before .before .before .before in
-    let l = e .before .before .before .before in
-    let fits : SFits w16 (e .evaluate .result .value) = search needs in
-    passing-turn
-    (search needs)
-    (l .loop .inv)
-    (omega arith)
-    (omega (arith, ltb-true))
-    (search needs)
-    (l .before .nearest .ensures)
-    (e .before .window-at .ensures)
-    (e .evaluate .ensures)
-    (toZ-ofZ fits)
-    (c .before .step .ensures)
-    (c .advance .ensures)
+    let l = c .before .before .before .before .before .before in
+    let q = c .before .before .before .stretch .result in
+    let t = c .before .before .before .stretch .ensures in
+    let on = t .goes-on _ (now (l .before .args .output)) refl refl (l .loop .inv .stands) in
+    record {
+      stands = on;
+      spent = λ e h. omega (arith, t .stops (omega (arith, t .counts .0, ltb-false (l .loop .p .clips) (q .clips) e)) h, on .long);
+    }
 
 loop-holds : tie.Need-loop-holds Inv-loop μ-loop
-loop-holds c = passing-begins (c .before .pre .2) (search needs) (c .before .pre .1)
+loop-holds c = record { stands = passing-begins (c .pre .2) (search needs) (c .pre .1); spent = λ e. let z : _≡_ {A = ℕ} 0 1 = cc in absurd (omega arith) }
+
+-- after a stretch less is left: a clip more is an output more
+less : (n w w' c c' : ℕ) (more : Bool) → ltb c c' ≡ more → w' ≤ n → c ≤ c' → w + c' ≤ w' + c → n - w' + boolByte more < n - w + 1
+less n w w' c c' true e h k l = let z = ltb-true c c' e in omega arith
+less n w w' c c' false e h k l = omega arith
 
 loop-less : tie.Need-loop-less Inv-loop μ-loop
-loop-less c = omega (arith, loop-again c .passed .room)
+loop-less c =
+    let l = c .before .before .before .before .before .before in
+    let t = c .before .before .before .stretch in
+    let p = l .loop .p in
+    let q = t .result in
+    rw (c .before .before .before .before .before .loop-test .taken)
+    (less (length (now (l .before .args .output))) (p .written) (q .written) (p .clips) (q .clips) _ refl (loop-again c .stands .passed .room) (t .ensures .counts .0) (t .ensures .counts .1))
 
-nearest-requires : tie.Need-nearest-requires Inv-loop μ-loop
-nearest-requires c κs = search needs
-
-sub-end : tie.Need-sub-end Inv-loop μ-loop
-sub-end c = search needs
-
-window-at-requires : tie.Need-window-at-requires Inv-loop μ-loop
-window-at-requires c κs = search needs
-
-evaluate-requires : tie.Need-evaluate-requires Inv-loop μ-loop
-evaluate-requires c κs = search needs
-
-mul-v : tie.Need-mul-v Inv-loop μ-loop
-mul-v c = search needs
-
-slice-set-from-v : tie.Need-slice-set-from-v Inv-loop μ-loop
-slice-set-from-v c = search needs
-
-add-written : tie.Need-add-written Inv-loop μ-loop
-add-written c = search needs
-
-cast-clips : tie.Need-cast-clips Inv-loop μ-loop
-cast-clips c = search needs
-
-add-clips : tie.Need-add-clips Inv-loop μ-loop
-add-clips c = let b = c .before .before .evaluate .result .clip in omega (arith, ltb-true, byte-is b, clip-le b)
-
-step-requires : tie.Need-step-requires Inv-loop μ-loop
-step-requires c κs = search needs
-
-advance-requires : tie.Need-advance-requires Inv-loop μ-loop
-advance-requires c κs = search needs
-
-add-at : tie.Need-add-at Inv-loop μ-loop
-add-at c = omega (arith, loop-again c .passed .near)
+stretch-requires : tie.Need-stretch-requires Inv-loop μ-loop
+stretch-requires c κs =
+    let l = c .before .before in
+    let a = l .before .pre in
+    let i = l .loop .inv .stands in
+    (a .0, a .2, i .passed .near, i .passed .few, omega (arith, i .passed .room, i .long))
 
 same-length : tie.Need-same-length Inv-loop μ-loop
 same-length c = search needs
 
-same-length-2 : tie.Need-same-length-2 Inv-loop μ-loop
-same-length-2 c = search needs
-
 pub pass-spec : {M : Type 1} → statement M
-pass-spec =
-    tie.close
-    (tie.spec
-    Inv-loop
-    μ-loop
-    nearest-requires
-    sub-end
-    loop-holds
-    window-at-requires
-    evaluate-requires
-    mul-v
-    slice-set-from-v
-    add-written
-    cast-clips
-    add-clips
-    step-requires
-    advance-requires
-    add-at
-    loop-less
-    loop-again
-    same-length
-    returns
-    same-length-2
-    returns-2)
+pass-spec = tie.close (tie.spec Inv-loop μ-loop loop-holds stretch-requires loop-less loop-again same-length returns)
