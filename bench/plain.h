@@ -1,0 +1,32 @@
+/* The converter in plain C, to compare speeds with: block feeding of 16-bit samples through one of four kernels. */
+#ifndef PLAIN_H
+#define PLAIN_H
+
+#include <stddef.h>
+#include <stdint.h>
+
+/* `window` has the newest four samples, oldest first; `needed` more are taken before the next output;
+   `reg` is that output's position between two samples, in 2^-32 of a sample; `word` is how far one output
+   lies from the next, in the same unit. */
+struct plain_state {
+    int kernel;
+    int needed;
+    uint32_t reg;
+    uint64_t word;
+    int16_t window[4];
+};
+
+/* What a feed did. `full` tells that it stopped because the output space was all written, and not because
+   the samples were. */
+struct plain_fed {
+    size_t taken;
+    size_t written;
+    size_t clips;
+    int full;
+};
+
+/* Takes samples and writes outputs until either the samples or the space are spent. */
+struct plain_fed plain_feed(struct plain_state *state, const int16_t *input, size_t input_count,
+                            int16_t *output, size_t output_count);
+
+#endif
