@@ -16,14 +16,14 @@ use Rattle.kernels.specs.Kernel.{Kernel, kernelOf}
 use Rattle.kernels.specs.Value.{newest, value, valueClips}
 use Rattle.kernels.proofs.Card.{value-more, clips-more, newest-start, newest-next, card-output, card-clip}
 use Rattle.converter.specs.declared.state.State.{State}
-use Rattle.converter.specs.Start.{isState, neededAt, fresh, started, withWord}
+use Rattle.converter.specs.Start.{lastRead, isState, neededAt, fresh, started, withWord}
 use Rattle.converter.specs.Feeding.{HUNGRY, FULL, outputNext, clipNext, advanced, taking, Ran, ended, wrote, took, rule}
-use Rattle.converter.specs.Paper.{Paper, Did, begin, furthest, ahead, first, joins, counted, feeds, reworded}
+use Rattle.converter.specs.Paper.{BeforeFirst, Paper, Did, begin, ahead, first, joins, counted, feeds, reworded}
 use Rattle.converter.specs.Demand.{clipsAt}
 use Rattle.converter.proofs.Turns.{rule-ind}
 use Rattle.converter.proofs.Runs.{Ending, full, hungry}
 use Rattle.converter.proofs.States.{Sound, state-is, sound-advanced, sound-taking, start-accepted}
-use Rattle.converter.proofs.Count.{BeforeFirst, before-only, count-law, count-first}
+use Rattle.converter.proofs.Count.{before-only, count-law, count-first}
 
 -- ---- the state that stands where the paper stands
 abbrev pub kernelIn : Paper → Kernel
@@ -31,7 +31,7 @@ kernelIn p = kernelOf (p .kernel)
 
 -- the sample that the next output reads last
 abbrev pub last : Paper → ℕ
-last p = furthest (kernelIn p) (p .position)
+last p = lastRead (kernelIn p) (p .position)
 
 abbrev pub cardOf : Paper → State
 cardOf p = record {
@@ -57,7 +57,7 @@ sync-state {s} {p} y = state-is s (subst Sound (sym (y .is)) (y .sound))
 
 -- ---- at the start
 fresh-sync : (k w q : ℕ) → Sound (fresh k w q) → q < 2 ^ 32 → Sync (fresh k w q) (record { kernel = k; word = w; joined = []; made = 0; position = q })
-unfolding neededAt furthest
+unfolding neededAt lastRead
 fresh-sync k w q h l =
     let p : Paper = record { kernel = k; word = w; joined = []; made = 0; position = q } in
     let n : neededAt k q ≡ last p + 1 - 0 = omega arith in
@@ -80,7 +80,7 @@ abbrev pub moved : Paper → Paper
 moved p = record { kernel = p .kernel; word = p .word; joined = p .joined; made = p .made + 1; position = p .position + p .word }
 
 card-moved : (p : Paper) → length (p .joined) ≡ last p + 1 → (advanced (cardOf p) ≡ cardOf (moved p)) × (last p ≤ last (moved p))
-unfolding advanced furthest
+unfolding advanced lastRead
 card-moved p h =
     let near : Bool = kernelIn p .nearest in
     let new : ℕ = stepped (registerOf (p .position)) (p .word) in
@@ -119,7 +119,7 @@ sync-take {s} {p} x j y e =
 -- ---- positions whose samples are all among the first n, and what later samples leave as it is
 abbrev pub Reached : Kernel → ℕ → List ℕ → Type 0
 Reached κ n [] = Unit {0}
-Reached κ n (q ∷ qs) = (furthest κ q < n) × Reached κ n qs
+Reached κ n (q ∷ qs) = (lastRead κ q < n) × Reached κ n qs
 
 pub reached-up : (κ : Kernel) (n m : ℕ) (qs : List ℕ) → n ≤ m → Reached κ n qs → Reached κ m qs
 reached-up κ n m [] l h = tt
@@ -129,19 +129,19 @@ pub reached-append : (κ : Kernel) (n : ℕ) (qs rs : List ℕ) → Reached κ n
 reached-append κ n [] rs h g = g
 reached-append κ n (q ∷ qs) rs h g = (h .0, reached-append κ n qs rs (h .1) g)
 
-reached-first : (κ : Kernel) (n q w i c : ℕ) → Reached κ n (first q w c) → i < c → furthest κ (ahead q w i) < n
+reached-first : (κ : Kernel) (n q w i c : ℕ) → Reached κ n (first q w c) → i < c → lastRead κ (ahead q w i) < n
 reached-first κ n q w i zero h l = absurd (omega arith)
 reached-first κ n q w zero (suc c) h l = h .0
 reached-first κ n q w (suc i) (suc c) h l = reached-first κ n (q + w) w i c (h .1) (omega arith)
 
 module _ (k : ℕ) (xs ys : List ℤ) where
   pub values-more : (qs : List ℕ) → Reached (kernelOf k) (length xs) qs → map (value (kernelOf k) (xs ++ ys)) qs ≡ map (value (kernelOf k) xs) qs
-  unfolding furthest
+  unfolding lastRead
   values-more [] h = refl
   values-more (q ∷ qs) h = λ i. value-more k xs ys q (h .0) i ∷ values-more qs (h .1) i
 
   pub clips-at-more : (qs : List ℕ) → Reached (kernelOf k) (length xs) qs → clipsAt (kernelOf k) (xs ++ ys) qs ≡ clipsAt (kernelOf k) xs qs
-  unfolding furthest clipsAt
+  unfolding lastRead clipsAt
   clips-at-more [] h = refl
   clips-at-more (q ∷ qs) h = λ i. cond (clips-more k xs ys q (h .0) i) 1 0 + clips-at-more qs (h .1) i
 
@@ -151,11 +151,11 @@ module _ {s : State} {p : Paper} (y : Sync s p) (e : s .needed ≡ 0) where
   due = omega (arith, e, needed-is y)
 
   pub output-due : (ys : List ℤ) → outputNext s ≡ value (kernelIn p) (p .joined ++ ys) (p .position)
-  unfolding furthest
+  unfolding lastRead
   output-due ys = ap outputNext (y .is) ∙ card-output (p .kernel) (p .joined) (p .position) due ∙ sym (value-more (p .kernel) (p .joined) ys (p .position) (omega (arith, due)))
 
   pub clip-due : (ys : List ℤ) → clipNext s ≡ cond (valueClips (kernelIn p) (p .joined ++ ys) (p .position)) 1 0
-  unfolding furthest
+  unfolding lastRead
   clip-due ys =
       ap clipNext (y .is)
       ∙ ap (λ b. cond b 1 0) (card-clip (p .kernel) (p .joined) (p .position) due ∙ sym (clips-more (p .kernel) (p .joined) ys (p .position) (omega (arith, due))))
@@ -232,7 +232,7 @@ same xs n {s} p r y h e = go e
     c = counted p xs
 
     reads : ℕ → ℕ
-    reads i = furthest (kernelIn p) (ahead (p .position) (p .word) i)
+    reads i = lastRead (kernelIn p) (ahead (p .position) (p .word) i)
 
     joined : r .taken ≤ length xs → length (p .joined ++ take (r .taken) xs) ≡ length (p .joined) + r .taken
     joined l = omega (arith, length-append (p .joined) (take (r .taken) xs), length-take-le (r .taken) xs l)

@@ -13,7 +13,7 @@ use Rattle.oscillator.proofs.Words.{word-is, is-word, word-within, refusal-with
 use Rattle.kernels.specs.Kernel.{kernelOf}
 use Rattle.kernels.proofs.Rows.{reach-most}
 use Rattle.converter.specs.declared.state.State.{State}
-use Rattle.converter.specs.Start.{isKernel, isState, neededAt, fresh, refusedStart, startedBy, started, withWord, retuned}
+use Rattle.converter.specs.Start.{isKernel, isState, lastRead, neededAt, fresh, refusedStart, startedBy, started, withWord, retuned}
 use Rattle.converter.specs.Feeding.{advanced, taking}
 
 -- ---- the test of refusal 5 in numbers
@@ -50,7 +50,7 @@ sound-taking s x h = record { kernel = h .kernel; above = h .above; below = h .b
 
 -- ---- start: needed is at most 4, an accepted state is sound, and which refusals there are
 pub needed-most : (k p : ℕ) → p < 2 ^ 32 → neededAt k p ≤ 4
-unfolding neededAt
+unfolding neededAt lastRead
 needed-most k p h = omega (arith, basepoint-phase (kernelOf k .nearest) p h, reach-most k)
 
 pub fresh-sound : (k w p : ℕ) → k ≤ 3 → 1 ≤ w → w ≤ 2 ^ 34 → p < 2 ^ 32 → Sound (fresh k w p)

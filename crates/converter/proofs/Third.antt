@@ -17,11 +17,11 @@ use Rattle.kernels.proofs.Close.{value-close}
 use Rattle.converter.specs.declared.state.State.{State}
 use Rattle.converter.specs.declared.state.Retuned.{Retuned}
 use Rattle.converter.specs.declared.feeding.Fed.{Fed}
-use Rattle.converter.specs.Start.{isState, retuned}
+use Rattle.converter.specs.Start.{lastRead, isState, retuned}
 use Rattle.converter.specs.Feeding.{endNumber, Ran, rule, Answer, answerOf, accepted, fedOf, outputsOf, FedRight}
-use Rattle.converter.specs.Paper.{Paper, Did, begin, furthest, count, outputsOver, feeds, reworded, retunes, does, run, afterwards, positions}
+use Rattle.converter.specs.Paper.{Paper, Did, begin, count, outputsOver, feeds, reworded, retunes, does, run, afterwards, positions}
 use Rattle.converter.specs.Paper as paper
-use Rattle.converter.specs.Demand.{Call, feed, retune, Seen, given, compared, written, outputs, clipped, clipsAt, Ends, EachEnds, Agrees, Third}
+use Rattle.converter.specs.Demand.{Call, feed, retune, Meets, after, Seen, given, compared, written, outputs, clipped, clipsAt, Ends, EachEnds, Agrees, Third}
 use Rattle.converter.proofs.States.{retune-setting, retune-word}
 use Rattle.converter.proofs.Runs.{Ending, full, hungry, rule-ending, ending-sizes}
 use Rattle.converter.proofs.Count.{first-length, count-none, count-some}
@@ -62,10 +62,6 @@ module _ {s : State} {p : Paper} {input old : List ℤ} {f : Fed} {left : List �
   feed-same = same input (length old) p (ranOf f left) y feed-placed feed-ending
 
 -- ---- one call
-abbrev pub after : Call → State
-after (feed input old f left) = f .state
-after (retune a r) = r .state
-
 abbrev pub takenBy : Call → ℕ
 takenBy (feed input old f left) = f .taken
 takenBy (retune a r) = 0
@@ -73,16 +69,6 @@ takenBy (retune a r) = 0
 abbrev pub writtenBy : Call → ℕ
 writtenBy (feed input old f left) = f .written
 writtenBy (retune a r) = 0
-
--- what the call promises, handed the state s
-abbrev pub Meets : State → Call → Type 0
-Meets s (feed input old f left) = FedRight s input old f left
-Meets s (retune a r) = r ≡ retuned s a
-
-seen-first : (s : State) (c : Call) (cs : List Call) → Seen s (c ∷ cs) → Meets s c × Seen (after c) cs
-unfolding Seen
-seen-first s (feed input old f left) cs h = h
-seen-first s (retune a r) cs h = h
 
 -- the call c beside what the paper did at p
 pub record Step (p : Paper) (c : Call) (d : Did) : Type 0 where
@@ -139,13 +125,12 @@ pub record Agreed (p : Paper) (cs : List Call) (did : List Did) : Type 0 where
   pub reached : Reached (kernelIn p) (length (afterwards p did .joined)) (positions did)
 
 pub agreed : (cs : List Call) (s : State) (p : Paper) → Sync s p → Seen s cs → Agreed p cs (run p (map given cs))
-unfolding run afterwards positions outputs
+unfolding run afterwards positions outputs Seen
 agreed [] s p y h = record { same = refl; values = refl; clips = refl; reached = tt }
 agreed (c ∷ cs) s p y h =
-    let m = seen-first s c cs h in
-    let t = step c s p y (m .0) in
+    let t = step c s p y (h .0) in
     let d : Did = does p (given c) in
-    let g = agreed cs (after c) (d .paper) (t .sync) (m .1) in
+    let g = agreed cs (after c) (d .paper) (t .sync) (h .1) in
     let κ : Kernel = kernelIn p in
     let e : kernelIn (d .paper) ≡ κ = ap kernelOf (onward p (given c) .kernel) in
     -- the paper's samples after this call, and after all of them
@@ -171,7 +156,7 @@ agreed (c ∷ cs) s p y h =
 pub outputs-over : (κ : Kernel) (n : ℕ) (qs : List ℕ) (w q : ℕ) → Reached κ n qs → outputsOver κ n qs w q ≡ length qs + count κ w q n
 unfolding outputsOver
 outputs-over κ n [] w q h = omega arith
-outputs-over κ n (p ∷ qs) w q h = rw (lt-ltb (furthest κ p) n (h .0), outputsOver) (omega (arith, outputs-over κ n qs w q (h .1)))
+outputs-over κ n (p ∷ qs) w q h = rw (lt-ltb (lastRead κ p) n (h .0), outputsOver) (omega (arith, outputs-over κ n qs w q (h .1)))
 
 -- what is known before a call: n samples are joined, m outputs made, at the positions qs, and these are reached
 record Before (p : Paper) (qs : List ℕ) (n m : ℕ) : Type 0 where
@@ -214,8 +199,8 @@ feed-ends {s} {p} {p′} {qs} {n} {m} {input} {old} {f} {left} y h z b = by-end 
         let none = count-none κ (p′ .word) (p′ .position) n (z .sound .above) (omega (arith, next)) in
         record { hungry = ((λ a. (l, omega (arith, all))), (λ a. e)); full = λ a. absurd (a e) }
 
-each-ends : (cs : List Call) (s : State) (p : Paper) (qs : List ℕ) (n m : ℕ) → Sync s p → Before p qs n m → Seen s cs → EachEnds p qs n m cs
-unfolding EachEnds Seen
+each-ends : (cs : List Call) (s : State) (p : Paper) (qs : List ℕ) (n m : ℕ) → Sync s p → Before p qs n m → Seen s cs → EachEnds qs n m cs (run p (map given cs))
+unfolding EachEnds Seen run
 each-ends [] s p qs n m y b h = tt
 each-ends (feed input old f left ∷ cs) s p qs n m y b h =
     let t = step (feed input old f left) s p y (h .0) in
@@ -229,7 +214,7 @@ each-ends (retune a r ∷ cs) s p qs n m y b h =
 
 -- ---- the demand
 -- by index
-reached-at : (κ : Kernel) (n : ℕ) (qs : List ℕ) → Reached κ n qs → (k : ℕ) → k < length qs → furthest κ (getD qs k 0) < n
+reached-at : (κ : Kernel) (n : ℕ) (qs : List ℕ) → Reached κ n qs → (k : ℕ) → k < length qs → lastRead κ (getD qs k 0) < n
 reached-at κ n [] h k l = absurd (omega arith)
 reached-at κ n (q ∷ qs) h zero l = h .0
 reached-at κ n (q ∷ qs) h (suc k) l = reached-at κ n qs (h .1) k (omega arith)
@@ -247,14 +232,12 @@ agrees s p y none zero-made cs h =
     let X : List ℤ = afterwards p did .joined in
     let g = agreed cs s p y h in
     record {
-      agreement = record {
-        same = g .same;
-        values = g .values;
-        clips = g .clips;
-        reached = reached-at κ (length X) (positions did) (g .reached);
-        close = λ k l. subst (λ zs. CloseAt κ X (getD (positions did) k 0) (getD zs k (pos 0))) (sym (g .values)) (close-at (p .kernel) X (positions did) k l);
-      };
+      same = g .same;
+      values = g .values;
       made = omega (arith, run-made (map given cs) p, ap length (g .values), length-map (positions did) (value κ X));
+      reached = reached-at κ (length X) (positions did) (g .reached);
+      close = λ k l. subst (λ zs. CloseAt κ X (getD (positions did) k 0) (getD zs k (pos 0))) (sym (g .values)) (close-at (p .kernel) X (positions did) k l);
+      clips = g .clips;
       ends = each-ends cs s p [] 0 0 y (record { samples = omega (arith, ap length none); made = refl; reached = tt }) h;
     }
 

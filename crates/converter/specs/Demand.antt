@@ -1,4 +1,5 @@
 -- Demand 3: over every list of feed and retune calls from an accepted start, the card agrees with the paper's run. Definitions only; the proof is `third` in proofs/Third.antt.
+-- (`Unit` asks nothing, `⊥` cannot be, and `getD xs k d` is entry k of xs.)
 --
 -- The card's side is what was seen of it: the calls with their arguments, their answers and the buffers that they left. All that is known of these is what the contracts of start, feed
 -- and retune say, so the statement holds of any program that meets them.
@@ -17,9 +18,9 @@ use Rattle.converter.specs.declared.state.State.{State}
 use Rattle.converter.specs.declared.state.Started.{Started}
 use Rattle.converter.specs.declared.state.Retuned.{Retuned}
 use Rattle.converter.specs.declared.feeding.Fed.{Fed}
-use Rattle.converter.specs.Start.{started, retuned}
+use Rattle.converter.specs.Start.{lastRead, started, retuned}
 use Rattle.converter.specs.Feeding.{HUNGRY, FULL, endNumber, FedRight}
-use Rattle.converter.specs.Paper.{Given, Compared, Paper, Did, begin, furthest, outputsOver, does, run, afterwards, positions, fed as fed-counts, tuned}
+use Rattle.converter.specs.Paper.{Given, Compared, Paper, Did, begin, outputsOver, run, afterwards, positions, fed as fed-counts, tuned}
 use Rattle.converter.specs.Paper as paper
 
 -- ---- the card
@@ -28,12 +29,20 @@ pub data Call : Type 0 where
   feed : (input old : List ℤ) → Fed → (left : List ℤ) → Call
   retune : Setting → Retuned → Call
 
+-- what the function that is called promises of the call, handed the state s, and the state that it returns
+abbrev pub Meets : State → Call → Type 0
+Meets s (feed input old f left) = FedRight s input old f left
+Meets s (retune a r) = r ≡ retuned s a
+
+abbrev pub after : Call → State
+after (feed input old f left) = f .state
+after (retune a r) = r .state
+
 -- "Every call is handed the state that the call before it returned, a refused retune's too, and nothing else changes that state in between": the calls cs as they can be seen from the
--- state s on, each tied to the state that it was handed by what its function promises
+-- state s on. There is one such list for each list of arguments (laws `seen` and `seen-only`)
 unfoldable pub Seen : State → List Call → Type 0
 Seen s [] = Unit {0}
-Seen s (feed input old f left ∷ cs) = FedRight s input old f left × Seen (f .state) cs
-Seen s (retune a r ∷ cs) = (r ≡ retuned s a) × Seen (r .state) cs
+Seen s (c ∷ cs) = Meets s c × Seen (after c) cs
 
 -- "fed the arguments of the calls and none of their answers"
 abbrev pub given : Call → Given
@@ -69,32 +78,35 @@ pub record Ends (p : Paper) (qs : List ℕ) (n m : ℕ) (input old : List ℤ) (
   pub hungry : endNumber (f .end) ≡ HUNGRY ↔ (f .taken ≡ length input) × (m ≡ outputsOver (kernelOf (p .kernel)) n qs (p .word) (p .position))
   pub full : (endNumber (f .end) ≡ HUNGRY → ⊥) → (endNumber (f .end) ≡ FULL) × (f .written ≡ length old)
 
--- of every feed in the list; before it the paper stands at p, its outputs at qs, n samples are taken and m outputs made
-unfoldable pub EachEnds : Paper → List ℕ → ℕ → ℕ → List Call → Type 0
-EachEnds p qs n m [] = Unit {0}
-EachEnds p qs n m (feed input old f left ∷ cs) =
-    let d = does p (paper.feed input (length old)) in
-    Ends (d .paper) (qs ++ d .positions) (n + f .taken) (m + f .written) input old f × EachEnds (d .paper) (qs ++ d .positions) (n + f .taken) (m + f .written) cs
-EachEnds p qs n m (retune a r ∷ cs) = EachEnds (does p (paper.retune a) .paper) qs n m cs
+-- of every feed in the list, beside what the paper did; before the list the paper's outputs stand at qs, n samples are taken and m outputs made
+unfoldable pub EachEnds : List ℕ → ℕ → ℕ → List Call → List Did → Type 0
+EachEnds qs n m [] did = Unit {0}
+EachEnds qs n m (c ∷ cs) [] = ⊥
+EachEnds qs n m (feed input old f left ∷ cs) (d ∷ did) =
+    Ends (d .paper) (qs ++ d .positions) (n + f .taken) (m + f .written) input old f × EachEnds (qs ++ d .positions) (n + f .taken) (m + f .written) cs did
+EachEnds qs n m (retune a r ∷ cs) (d ∷ did) = EachEnds qs n m cs did
 
 -- ---- the demand
--- The calls cs beside what the paper did over their arguments: `joined` are the samples joined after the list, and `at` the positions of its outputs.
-pub record Agreement (κ : Kernel) (cs : List Call) (did : List Did) (joined : List ℤ) (at : List ℕ) : Type 0 where
+-- The calls cs beside what the paper did over their arguments, which left it at p; its outputs stand `at` these positions.
+pub record Agreement (κ : Kernel) (cs : List Call) (did : List Did) (p : Paper) (at : List ℕ) : Type 0 where
   -- "each call has taken the same samples and written as many outputs as in the paper's run", and its end; "No feed in such a list is refused", and a retune as in the paper
   pub same : map compared cs ≡ map (λ d. d .compared) did
   -- "card output k equals the value of demand 2 at the paper's basepoint and at m of the paper's fraction, over the joined samples"
-  pub values : outputs cs ≡ map (value κ joined) at
-  -- "clips among them": exactly the outputs whose rounded value lies outside
-  pub clips : map clipped cs ≡ map (λ d. clipsAt κ joined (d .positions)) did
-  -- all that these outputs read has been joined
-  pub reached : (k : ℕ) → k < length at → furthest κ (getD at k 0) < length joined
+  pub values : outputs cs ≡ map (value κ (p .joined)) at
+  -- the paper counts as many
+  pub made : p .made ≡ length (outputs cs)
+  -- all that output k reads has been joined
+  pub reached : (k : ℕ) → k < length at → lastRead κ (getD at k 0) < length (p .joined)
   -- "Output k .. lies at most 1/2 + D/K from the paper's value held to 16 bits"
-  pub close : (k : ℕ) → k < length at → CloseAt κ joined (getD at k 0) (getD (outputs cs) k (pos 0))
+  pub close : (k : ℕ) → k < length at → CloseAt κ (p .joined) (getD at k 0) (getD (outputs cs) k (pos 0))
+  -- "clips among them": exactly the outputs whose rounded value lies outside (more than demand 3 asks, decision 35)
+  pub clips : map clipped cs ≡ map (λ d. clipsAt κ (p .joined) (d .positions)) did
+  -- the last sentence
+  pub ends : EachEnds [] 0 0 cs did
 
-pub record Agrees (p : Paper) (cs : List Call) : Type 0 where
-  pub agreement : let did = run p (map given cs) in Agreement (kernelOf (p .kernel)) cs did (afterwards p did .joined) (positions did)
-  pub made : afterwards p (run p (map given cs)) .made ≡ length (outputs cs)
-  pub ends : EachEnds p [] 0 0 cs
+-- the paper's run over the arguments of the calls, from p on
+abbrev pub Agrees : Paper → List Call → Type 0
+Agrees p cs = let did = run p (map given cs) in Agreement (kernelOf (p .kernel)) cs did (afterwards p did) (positions did)
 
 -- from the state that an accepted start returned; P has 32 bits
 abbrev pub Third : Type 0

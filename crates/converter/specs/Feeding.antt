@@ -1,4 +1,6 @@
 -- Feeding (document 01, "Feeding"): the rule as a function over the input and the space that are left, and what a feed owes. Definitions only.
+--
+-- `cond t a b` is a where the test t holds, and else b; `elim n [ zero ↦ a | suc k ↦ b ]` is a where n is 0, and else b.
 use mathlib.Core.Path.{_≡_}
 use mathlib.Core.Bool.{cond}
 use mathlib.Core.List.{List, [], _∷_, _++_}
@@ -14,7 +16,7 @@ use Rattle.converter.specs.declared.feeding.End.{End}
 use Rattle.converter.specs.declared.feeding.End.the-variants as end
 use Rattle.converter.specs.Start.{isState}
 
--- how a feed ends, by the number that document 01 has for it in the saved state: "0 for HUNGRY or 1 for FULL"
+-- how a feed ends, by document 01's number for it: "0 for HUNGRY or 1 for FULL". "When an answer is an enum, a definition states this paper's number": `endNumber`
 abbrev pub HUNGRY : ℕ
 HUNGRY = 0
 
@@ -26,7 +28,7 @@ endNumber end.Hungry = HUNGRY
 endNumber end.Full = FULL
 
 -- ---- the state goes on
--- the output that is next, and whether it counts as a clip
+-- the output that is next, by demand 2 at the register and the window; "A held output counts as one clip"
 abbrev pub outputNext : State → ℤ
 outputNext s = outputOf (kernelOf (s .kernel)) (s .register) (s .window)
 
@@ -55,10 +57,11 @@ pub record Ran : Type 0 where
 abbrev pub ended : State → ℕ → Ran
 ended s e = record { state = s; taken = 0; outputs = []; clips = 0; end = e }
 
--- the output that is next at s is written, and then the run r; a sample is taken, and then the run r
+-- the output that is next at s is written, and then the run r
 abbrev pub wrote : State → Ran → Ran
 wrote s r = record { state = r .state; taken = r .taken; outputs = outputNext s ∷ r .outputs; clips = clipNext s + r .clips; end = r .end }
 
+-- a sample is taken, and then the run r
 abbrev pub took : Ran → Ran
 took r = record { state = r .state; taken = suc (r .taken); outputs = r .outputs; clips = r .clips; end = r .end }
 
@@ -71,7 +74,7 @@ rule (x ∷ xs) zero s = elim (s .needed) [ zero ↦ ended s FULL | suc k ↦ to
 rule (x ∷ xs) (suc n) s = elim (s .needed) [ zero ↦ wrote s (rule (x ∷ xs) n (advanced s)) | suc k ↦ took (rule xs (suc n) (taking s x)) ]
 
 -- ---- the call
--- what a feed returns, its end by number
+-- what a feed returns, its end by document 01's number
 pub record Answer : Type 0 where
   pub state : State
   pub taken : ℕ
@@ -83,10 +86,11 @@ pub record Answer : Type 0 where
 abbrev pub answerOf : Fed → Answer
 answerOf f = record { state = f .state; taken = f .taken; written = f .written; clips = f .clips; end = endNumber (f .end); refusal = f .refusal }
 
+-- the answer of a feed that is not refused
 abbrev pub accepted : Ran → Answer
 accepted r = record { state = r .state; taken = r .taken; written = length (r .outputs); clips = r .clips; end = r .end; refusal = 0 }
 
--- refusal 5: "the state given, counts 0"; its end is HUNGRY
+-- refusal 5: "the state given, counts 0"; document 01 leaves its end open, and it is HUNGRY (decision 30)
 abbrev pub refusedFeed : State → Answer
 refusedFeed s = record { state = s; taken = 0; written = 0; clips = 0; end = HUNGRY; refusal = 5 }
 
@@ -101,7 +105,7 @@ outputsOf s xs n = cond (isState s) (rule xs n s .outputs) []
 abbrev pub over : List ℤ → List ℤ → List ℤ
 over ys old = ys ++ drop (length ys) old
 
--- What a feed owes: its answer f, and the output buffer, which held `old` and holds `left` when it returns.
+-- What a feed owes that was handed the state s and the input: its answer f, and the output buffer, which held `old` and holds `left` when it returns.
 pub record FedRight (s : State) (input old : List ℤ) (f : Fed) (left : List ℤ) : Type 0 where
   pub answer : answerOf f ≡ fedOf s input (length old)
   pub buffer : left ≡ over (outputsOf s input (length old)) old

@@ -7,7 +7,7 @@ use lib.IntN.{ℤ, pos}
 use Rattle.oscillator.specs.declared.settings.Setting.{Setting}
 use Rattle.oscillator.specs.Word.{Outcome, word, refused, isWord, wordOf}
 use Rattle.oscillator.specs.Position.{basepoint}
-use Rattle.kernels.specs.Kernel.{kernelOf}
+use Rattle.kernels.specs.Kernel.{Kernel, kernelOf}
 use Rattle.converter.specs.declared.state.State.{State}
 use Rattle.converter.specs.declared.state.Started.{Started}
 use Rattle.converter.specs.declared.state.Retuned.{Retuned}
@@ -20,10 +20,14 @@ isKernel k = leb k 3
 unfoldable pub isState : State → Bool
 isState s = isKernel (s .kernel) && isWord (s .word) && leb (s .needed) 4
 
+-- b + R: the number of the last sample that the output at the position q reads (the first sample is number 0)
+unfoldable pub lastRead : Kernel → ℕ → ℕ
+lastRead κ q = basepoint (κ .nearest) q + κ .reach
+
 -- ---- start
 -- "the number of samples still needed before the next output": "At the start that is b + R + 1"
 unfoldable pub neededAt : ℕ → ℕ → ℕ
-neededAt k p = basepoint (kernelOf k .nearest) p + kernelOf k .reach + 1
+neededAt k p = lastRead (kernelOf k) p + 1
 
 -- "the newest four samples (.. zeros at the start)"
 abbrev pub silence : List ℤ
@@ -33,10 +37,11 @@ silence = pos 0 ∷ pos 0 ∷ pos 0 ∷ pos 0 ∷ []
 abbrev pub fresh : ℕ → ℕ → ℕ → State
 fresh k w p = record { kernel = k; needed = neededAt k p; register = p; word = w; window = silence }
 
--- "no state": one of zeros, whose word 0 every other call refuses with 5
+-- "no state" is one of zeros, whose word 0 every other call refuses with 5 (law `no-state`; document 01 leaves its form open, decision 29)
 abbrev pub refusedStart : ℕ → Started
 refusedStart n = record { state = record { kernel = 0; needed = 0; register = 0; word = 0; window = silence }; refusal = n }
 
+-- by what the setting comes to: a word, or a refusal
 abbrev pub startedBy : ℕ → ℕ → Outcome → Started
 startedBy k p (word w) = record { state = fresh k w p; refusal = 0 }
 startedBy k p (refused n) = refusedStart n
@@ -50,6 +55,7 @@ started k a p = cond (isKernel k) (startedBy k p (wordOf a)) (refusedStart 1)
 abbrev pub withWord : State → ℕ → State
 withWord s w = record { kernel = s .kernel; needed = s .needed; register = s .register; word = w; window = s .window }
 
+-- by what the setting comes to: a word, or a refusal, which leaves the "state as it came"
 abbrev pub retunedBy : State → Outcome → Retuned
 retunedBy s (word w) = record { state = withWord s w; refusal = 0 }
 retunedBy s (refused n) = record { state = s; refusal = n }

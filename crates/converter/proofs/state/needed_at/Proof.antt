@@ -4,14 +4,14 @@ use mathlib.Core.Path.{_≡_, ap, _∙_}
 use Prim.Native.Nat.{_+_, _<_}
 use native.Mathlib.Omega.{arith}
 use Rattle.oscillator.specs.Position.{basepoint}
-use Rattle.converter.specs.Start.{neededAt}
+use Rattle.converter.specs.Start.{lastRead, neededAt}
 use Rattle.converter.proofs.States.{needed-most}
 use Rattle.converter.proofs.state.needed_at.Statement.{statement}
 use Rattle.converter.proofs.state.needed_at.Tie as tie
 
 -- the sum that the code makes is the definition's
 sum-is : (c : tie.After-reach) → c .before .basepoint .result + c .reach .result + 1 ≡ neededAt (c .before .before .before .args .kernel) (c .before .before .before .args .phase)
-unfolding neededAt
+unfolding neededAt lastRead
 sum-is c =
     let a = c .before .before .before .args in
     let b = c .before .basepoint .ensures ∙ ap (λ t. basepoint t (a .phase)) (c .before .before .nearest .ensures) in
