@@ -14,7 +14,7 @@ use lib.Seq.{length-front, drop-append-seam, length-take-le}
 use Rattle.converter.specs.declared.state.State.{State}
 use Rattle.converter.specs.declared.feeding.Fed.{Fed}
 use Rattle.converter.specs.Start.{isState}
-use Rattle.converter.specs.Feeding.{HUNGRY, FULL, Ran, rule, Answer, answerOf, accepted, refusedFeed, fedOf, outputsOf, over, FedRight}
+use Rattle.converter.specs.Feeding.{HUNGRY, FULL, Ran, rule, Answer, answerOf, accepted, fedOf, outputsOf, over, FedRight}
 use Rattle.converter.proofs.States.{Sound, state-is}
 use Rattle.converter.proofs.Turns.{rule-full, rule-hungry, by-need}
 use Rattle.converter.proofs.Runs.{rule-ending, ending-sizes, rule-sound, rule-more, ran, then}
@@ -24,7 +24,8 @@ pub fed-rule : (s : State) → isState s ≡ true → (xs : List ℤ) (n : ℕ) 
 unfolding fedOf outputsOf
 fed-rule s e xs n = (rw e, rw e)
 
-pub fed-refused : (s : State) → isState s ≡ false → (xs : List ℤ) (n : ℕ) → (fedOf s xs n ≡ refusedFeed s) × (outputsOf s xs n ≡ [])
+pub fed-refused : (s : State) → isState s ≡ false → (xs : List ℤ) (n : ℕ)
+    → (fedOf s xs n ≡ record { state = s; taken = 0; written = 0; clips = 0; end = 0; refusal = 5 }) × (outputsOf s xs n ≡ [])
 unfolding fedOf outputsOf
 fed-refused s e xs n = (rw e, rw e)
 
@@ -55,7 +56,7 @@ module _ {s : State} {input old : List ℤ} {f : Fed} {left : List ℤ} (h : Fed
       (λ i. drop (written-is i) (h .buffer i)) ∙ drop-append-seam ys (drop (length ys) old) ∙ ap (λ n. drop n old) (sym written-is)
 
   -- a refused feed hands back the state, with counts 0, and leaves the buffer as it was
-  pub refused-same : isState s ≡ false → (answerOf f ≡ refusedFeed s) × (left ≡ old)
+  pub refused-same : isState s ≡ false → (answerOf f ≡ record { state = s; taken = 0; written = 0; clips = 0; end = 0; refusal = 5 }) × (left ≡ old)
   refused-same e = let r = fed-refused s e input (length old) in (h .answer ∙ r .0, h .buffer ∙ ap (λ ys. over ys old) (r .1))
 
 -- ---- "Empty input and empty output: FULL if none is needed, else HUNGRY", and nothing else changes

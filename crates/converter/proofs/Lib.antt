@@ -6,5 +6,6 @@ pub mod Count
 pub mod PaperRun
 pub mod Follows
 pub mod Third
+pub mod Traces
 pub mod Passing
-pub mod Closing
+pub mod Finishing

@@ -35,7 +35,7 @@ clip-le false = omega arith
 
 -- ---- what was done adds up
 module _ {A : Type 0} where
-  following-nothing : (r : Laid A) → r ≡ following 0 [] 0 r
+  pub following-nothing : (r : Laid A) → r ≡ following 0 [] 0 r
   following-nothing r = simp zero-add
 
   following-both : (t u : ℕ) (ys zs : List A) (c d : ℕ) (r : Laid A) → following t ys c (following u zs d r) ≡ following (t + u) (ys ++ zs) (c + d) r

@@ -1,11 +1,13 @@
 -- Which states are accepted, that a run keeps them accepted, and what start and retune hand back, by cases. Assumes nothing.
 use mathlib.Core.Path.{_≡_, refl}
+use mathlib.Core.List.{[], _∷_}
 use mathlib.Core.Bool.{Bool, true, false, cond, _&&_}
 use Prim.Native.Nat.{ℕ, _^_, _≤_, _<_}
 use native.Mathlib.Omega.{arith}
 use borrow.Author.Tests.{leb-true, le-leb, lt-leb}
 use lib.Dec.{leb}
-use lib.IntN.{ℤ}
+use lib.IntN.{ℤ, pos}
+use Rattle.integers.specs.Table.{both}
 use Rattle.oscillator.specs.declared.settings.Setting.{Setting}
 use Rattle.oscillator.specs.Word.{Outcome, word, refused, isWord, wordOf}
 use Rattle.oscillator.proofs.Positions.{advance-le, basepoint-phase}
@@ -26,10 +28,6 @@ pub record Sound (s : State) : Type 0 where
 pub state-is : (s : State) → Sound s → isState s ≡ true
 unfolding isState isKernel
 state-is s h = rw (le-leb (s .kernel) 3 (h .kernel), word-is (s .word) (h .above) (h .below), le-leb (s .needed) 4 (h .needed))
-
-both : (a b : Bool) → a && b ≡ true → (a ≡ true) × (b ≡ true)
-both true b e = (refl, e)
-both false b e = let z : _≡_ {A = ℕ} 0 1 = cc in absurd (omega arith)
 
 pub is-state : (s : State) → isState s ≡ true → Sound s
 unfolding isState isKernel
@@ -75,6 +73,14 @@ start-accepted k a p h = go (leb k 3) (wordOf a) refl refl
         record { kernel = leb-true k 3 e; word-of = w; setting = f; state = s; sound = rw s (fresh-sound k w p (leb-true k 3 e) (i .0) (i .1) h) }
     go true (refused n) e f z = absurd (omega (arith, z, refusal-within a n f .0))
     go false o e f z = absurd (omega (arith, z))
+
+-- "no state": the refusal's number beside a state of zeros, which feed and retune refuse
+pub no-state-is : (n : ℕ) → refusedStart n ≡ record { state = record { kernel = 0; needed = 0; register = 0; word = 0; window = pos 0 ∷ pos 0 ∷ pos 0 ∷ pos 0 ∷ [] }; refusal = n }
+no-state-is n = refl
+
+pub no-state : (n : ℕ) → isState (refusedStart n .state) ≡ false
+unfolding isState isKernel isWord
+no-state n = refl
 
 -- the refusals of start, in their order
 pub start-kernel : (k : ℕ) (a : Setting) (p : ℕ) → 4 ≤ k → started k a p ≡ refusedStart 1

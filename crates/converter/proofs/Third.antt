@@ -18,12 +18,13 @@ use Rattle.converter.specs.declared.state.State.{State}
 use Rattle.converter.specs.declared.state.Retuned.{Retuned}
 use Rattle.converter.specs.declared.feeding.Fed.{Fed}
 use Rattle.converter.specs.Start.{lastRead, isState, retuned}
-use Rattle.converter.specs.Feeding.{endNumber, Ran, rule, Answer, answerOf, accepted, fedOf, outputsOf, FedRight}
+use Rattle.converter.specs.Feeding.{endNumber, Ran, rule, Answer, answerOf, accepted, over, FedRight}
 use Rattle.converter.specs.Paper.{Paper, Did, begin, count, outputsOver, feeds, reworded, retunes, does, run, afterwards, positions}
 use Rattle.converter.specs.Paper as paper
 use Rattle.converter.specs.Demand.{Call, feed, retune, Meets, after, Seen, given, compared, written, outputs, clipped, clipsAt, Ends, EachEnds, Agrees, Third}
 use Rattle.converter.proofs.States.{retune-setting, retune-word}
 use Rattle.converter.proofs.Runs.{Ending, full, hungry, rule-ending, ending-sizes}
+use Rattle.converter.proofs.Feeds.{fed-rule}
 use Rattle.converter.proofs.Count.{first-length, count-none, count-some}
 use Rattle.converter.proofs.PaperRun.{onward, run-made, run-grows}
 use Rattle.converter.proofs.Follows.{kernelIn, last, Sync, needed-is, sync-state, start-sync, sync-retune, alike, Placed, follows, same}
@@ -39,12 +40,12 @@ pub record AsRule (s : State) (input old : List ℤ) (f : Fed) (left : List ℤ)
   pub refusal : f .refusal ≡ 0
 
 pub feed-accepted : {s : State} {input old : List ℤ} {f : Fed} {left : List ℤ} → isState s ≡ true → FedRight s input old f left → AsRule s input old f left
-unfolding fedOf outputsOf
 feed-accepted {s} {input} {old} {f} {left} e h =
     let r : Ran = rule input (length old) s in
-    let a : answerOf f ≡ accepted r = h .answer ∙ rw e in
+    let z = fed-rule s e input (length old) in
+    let a : answerOf f ≡ accepted r = h .answer ∙ z .0 in
     let w : f .written ≡ length (r .outputs) = ap (λ (t : Answer). t .written) a in
-    let o : take (f .written) left ≡ r .outputs = ap (λ n. take n left) w ∙ ap (take (length (r .outputs))) (h .buffer ∙ rw e) ∙ take-append-seam (r .outputs) (drop (length (r .outputs)) old) in
+    let o : take (f .written) left ≡ r .outputs = ap (λ n. take n left) w ∙ ap (take (length (r .outputs))) (h .buffer ∙ ap (λ ys. over ys old) (z .1)) ∙ take-append-seam (r .outputs) (drop (length (r .outputs)) old) in
     record {
       ran = sym (λ i. record { state = a i .state; taken = a i .taken; outputs = o i; clips = a i .clips; end = a i .end });
       count = ap length o ∙ sym w;

@@ -87,8 +87,8 @@ pub record PassRight (s : State) (xs old : List ℤ) (r : Progress) (left : List
   pub stops : r .at ≤ lastPlace xs → length old ≤ r .written
 
 -- what a feed answers whose last pass over xs got as far as r, with t samples, w outputs and c clips before it
-abbrev pub closing : State → List ℤ → Progress → ℕ → ℕ → ℕ → Answer
-closing s xs r t w c = record {
+abbrev pub finishing : State → List ℤ → Progress → ℕ → ℕ → ℕ → Answer
+finishing s xs r t w c = record {
   state = gone s (r .register) (r .at - lastPlace xs) (windowFrom xs (reached xs (r .at)));
   taken = t + reached xs (r .at);
   written = w + r .written;

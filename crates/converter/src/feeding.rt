@@ -11,7 +11,7 @@ ghost use lib.IntN.{pos};
 ghost use lib.ListN.{length, getD};
 ghost use Rattle.converter.specs.Start.{isState};
 ghost use Rattle.converter.specs.Feeding.{answerOf, FedRight};
-ghost use Rattle.converter.specs.Pass.{headOf, joinedOf, closing};
+ghost use Rattle.converter.specs.Pass.{headOf, joinedOf, finishing};
 
 // How a feed ends: a sample is needed and the input is spent, or an output is due and the space is all written.
 pub enum End {
@@ -60,72 +60,62 @@ fn head(input: &[i16]) -> usize
     4
 }
 
-// What a feed answers whose last pass over `samples` got as far as r, with `taken`, `written` and `clips` before it.
-fn close(s: State, samples: &[i16], r: Progress, taken: usize, written: usize, clips: usize) -> Fed
-    requires { ⌜ (4 ≤ length (now samples)) × (r .at ≤ length (now samples)) × (taken ≤ 4) × (written + r .written < 2 ^ 63) × (clips + r .clips < 2 ^ 63) ⌝ }
-    ensures { λ f. ⌜ answerOf f ≡ closing s (now (samples .entry)) r taken written clips ⌝ }
+// What a feed answers whose last pass over `samples` got as far as p, with `taken`, `written` and `clips` before it. The window that is kept is that of the output which is due,
+// or the last one where samples are still needed.
+fn finish(s: State, samples: &[i16], p: Progress, taken: usize, written: usize, clips: usize) -> Fed
+    requires { ⌜ (4 ≤ length (now samples)) × (p .at ≤ length (now samples)) × (taken ≤ 4) × (written + p .written < 2 ^ 63) × (clips + p .clips < 2 ^ 63) ⌝ }
+    ensures { λ f. ⌜ answerOf f ≡ finishing s (now (samples .entry)) p taken written clips ⌝ }
 {
-    let end = samples.len() - 4;
-    let at = r.at;
-    if at <= end {
-        let w = window_at(samples, at);
-        let t = State {
-            register: r.register,
-            needed: 0,
-            window: w,
-            ..s
-        };
-        return Fed {
-            state: t,
-            taken: taken + at,
-            written: written + r.written,
-            clips: clips + r.clips,
-            end: End::Full,
-            refusal: 0,
-        };
+    let last = samples.len() - 4;
+    let at = p.at;
+    let mut place = last;
+    let mut end = End::Hungry;
+    if at <= last {
+        place = at;
+        end = End::Full;
     }
-    let w = window_at(samples, end);
-    let t = State {
-        register: r.register,
-        needed: (at - end) as u8,
-        window: w,
+    let window = window_at(samples, place);
+    let state = State {
+        register: p.register,
+        needed: (at - place) as u8,
+        window: window,
         ..s
     };
     Fed {
-        state: t,
-        taken: taken + end,
-        written: written + r.written,
-        clips: clips + r.clips,
-        end: End::Hungry,
+        state: state,
+        taken: taken + place,
+        written: written + p.written,
+        clips: clips + p.clips,
+        end: end,
         refusal: 0,
     }
 }
 
-// Feeds a state that is not refused.
+// Feeds a state that is not refused: a pass over its window and the first samples, and where samples are still needed one over the input.
 fn feed_accepted(s: State, input: &[i16], output: &mut [i16]) -> Fed
     requires { ⌜ isState s ≡ true ⌝ }
     ensures { λ r. ⌜ FedRight s (now (input .entry)) (now (output .entry)) r (now (output .exit)) ⌝ }
 {
-    let w = s.window;
-    let joined = join(w, input);
+    let window = s.window;
+    let joined = join(window, input);
     let n = 4 + head(input);
-    let r = pass_by(s.kernel, s.word, s.register, s.needed, &joined[..n], output);
-    let k = r.written;
-    if r.at + 4 <= n || input.len() < 4 {
-        return close(s, &joined[..n], r, 0, 0, 0);
+    let first = pass_by(s.kernel, s.word, s.register, s.needed, &joined[..n], output);
+    let written = first.written;
+    if first.at + 4 <= n || input.len() < 4 {
+        return finish(s, &joined[..n], first, 0, 0, 0);
     }
-    let q = pass_by(
+    let second = pass_by(
         s.kernel,
         s.word,
-        r.register,
-        (r.at - 4) as u8,
+        first.register,
+        (first.at - 4) as u8,
         input,
-        &mut output[k..],
+        &mut output[written..],
     );
-    close(s, input, q, 4, k, r.clips)
+    finish(s, input, second, 4, written, first.clips)
 }
 
-// Feeds `input` to the state, and writes to `output` until either is spent.
+// Feeds by document 01's rule: it ends `Hungry` when a sample is needed and the input is spent, and `Full` when an output is due and the space is all written.
 pub fn feed(state: State, input: &[i16], output: &mut [i16]) -> Fed
     ensures { λ r. ⌜ FedRight state (now (input .entry)) (now (output .entry)) r (now (output .exit)) ⌝ }
 {

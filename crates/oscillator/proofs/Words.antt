@@ -1,11 +1,12 @@
 -- What the layers above cite of words: what a word is, that an accepted setting gives one, and which numbers a refusal has. Assumes nothing.
 use mathlib.Core.Path.{_≡_, refl}
-use mathlib.Core.Bool.{Bool, true, false, not, _&&_}
+use mathlib.Core.Bool.{Bool, true, false, not}
 use Prim.Native.Nat.{ℕ, zero, suc, _*_, _^_, _≤_}
 use native.Mathlib.Omega.{arith}
 use borrow.Author.Tests.{leb-true, le-leb, not-false}
 use lib.Dec.{leb, eqb}
 use lib.Ieee.{nan, inf, fin, up, down}
+use Rattle.integers.specs.Table.{both}
 use Rattle.oscillator.specs.declared.settings.Setting.{Setting}
 use Rattle.oscillator.specs.declared.settings.Setting.the-variants as setting
 use Rattle.oscillator.specs.Word.{Outcome, word, refused, refuseIf, isWord, inRange, nearestWord, ratioWord, ratesWord, wordOf}
@@ -17,12 +18,7 @@ word-is w h l = rw (le-leb 1 w h, le-leb w (2 ^ 34) l)
 
 pub is-word : (w : ℕ) → isWord w ≡ true → (1 ≤ w) × (w ≤ 2 ^ 34)
 unfolding isWord
-is-word w e = go (leb 1 w) (leb w (2 ^ 34)) refl refl e
-  where
-    go : (a b : Bool) → leb 1 w ≡ a → leb w (2 ^ 34) ≡ b → a && b ≡ true → (1 ≤ w) × (w ≤ 2 ^ 34)
-    go true true p q e = (leb-true 1 w p, leb-true w (2 ^ 34) q)
-    go true false p q e = let z : _≡_ {A = ℕ} 0 1 = cc in absurd (omega arith)
-    go false b p q e = let z : _≡_ {A = ℕ} 0 1 = cc in absurd (omega arith)
+is-word w e = let t = both (leb 1 w) (leb w (2 ^ 34)) e in (leb-true 1 w (t .0), leb-true w (2 ^ 34) (t .1))
 
 -- ---- every setting
 -- a word in 1..2^34, or a refusal 2, 3 or 4

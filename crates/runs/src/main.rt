@@ -52,7 +52,7 @@ fn large(seed: &mut u64) -> u64 {
     n as u64 * 4 + draw(seed, 4)
 }
 
-// Word 0 and the last around the largest are refused.
+// Word 0 and 2^34 + 1 are refused.
 fn word(seed: &mut u64) -> u64 {
     match draw(seed, 16) {
         0 => 1,
@@ -80,7 +80,7 @@ fn rate(seed: &mut u64) -> u32 {
     }
 }
 
-// A half, one and a half, .. words among them.
+// The first eight give a half, one and a half, .. words too.
 fn ratio(seed: &mut u64) -> f64 {
     match draw(seed, 16) {
         8 => 0.0,

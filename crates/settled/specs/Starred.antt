@@ -6,6 +6,7 @@ use mathlib.Core.List.{List, [], _∷_}
 use Prim.Native.Nat.{ℕ, _^_}
 use lib.Ieee.{Float, fin}
 use lib.IntN.{ℤ, pos}
+use lib.ListN.{length}
 use Rattle.oscillator.specs.declared.settings.Setting.the-variants.{Word, Ratio, Rates}
 use Rattle.oscillator.specs.Word.{word, refused, isWord, inRange, nearestWord, ratioWord, ratesWord, wordOf}
 use Rattle.oscillator.specs.Position.{position, basepoint, fraction, fourteenBits}
@@ -13,9 +14,9 @@ use Rattle.oscillator.specs.Register.{registerOf, stepped, carryOf, topBitOf, a
 use Rattle.kernels.specs.Kernel.{four, −, kernelOf}
 use Rattle.kernels.specs.Value.{column, polynomial, numerator, unit, nearestWhole, rounded, held, output, outside, clips, filterFraction, windowAt, outputOf, clipOf}
 use Rattle.converter.specs.declared.state.State.{State}
-use Rattle.converter.specs.Start.{isKernel, isState, neededAt, started}
-use Rattle.converter.specs.Feeding.{HUNGRY, advanced, taking, rule, fedOf, outputsOf}
-use Rattle.converter.specs.Paper.{furthest, countIn, count}
+use Rattle.converter.specs.Start.{isKernel, isState, lastRead, neededAt, started}
+use Rattle.converter.specs.Feeding.{advanced, taking, rule, fedOf, outputsOf}
+use Rattle.converter.specs.Paper.{countIn, count}
 
 -- the float 2^e, or −2^e
 abbrev power : Bool → ℤ → Float
@@ -36,9 +37,9 @@ samples (n ∷ ns) = pos n ∷ samples ns
 abbrev card : ℕ → ℕ → ℕ → State
 card k w p = started k (Word w) p .state
 
--- the samples xs fed to it, with space for nine outputs, give the outputs ys, and the feed ends HUNGRY
+-- the samples xs fed to it, with space for nine outputs, give the outputs ys and no clip, and the feed ends HUNGRY with all of them taken
 abbrev Gives : State → List ℤ → List ℤ → Type 0
-Gives s xs ys = (outputsOf s xs 9 ≡ ys) × (fedOf s xs 9 .end ≡ HUNGRY)
+Gives s xs ys = (outputsOf s xs 9 ≡ ys) × (fedOf s xs 9 ≡ record { state = fedOf s xs 9 .state; taken = length xs; written = length ys; clips = 0; end = 0; refusal = 0 })
 
 -- m of u = 1/2
 abbrev half : ℤ
@@ -53,7 +54,7 @@ pub record Starred : Type 0 where
   pub parabolic : output (kernelOf 2) (four (pos 16) (pos 32) (pos 48) (pos 80)) half ≡ pos 38
   -- "Kernel 1, P C0000000 hexadecimal, word 2^30: b is 1 with m −4096, then 1 with m 0."
   pub two-at-one : (b 0xC0000000 ≡ 1) × (m 0xC0000000 ≡ − 4096) × (b (position 0xC0000000 (2 ^ 30 ∷ [])) ≡ 1) × (m (position 0xC0000000 (2 ^ 30 ∷ [])) ≡ pos 0)
-  -- so the card's advance is 0
+  -- so the card's advance is 0; "Adding only the carry in kernel 1" would make it 1
   pub no-advance : advanceOf (kernelOf 1 .nearest) 0xC0000000 (stepped 0xC0000000 (2 ^ 30)) (2 ^ 30) ≡ 0
   -- "Over 10, 20, 40 the first gives 17." The second is x0, and the third 20 + 15/4 + 5/16
   pub three-point : Gives (card 1 (2 ^ 30) 0xC0000000) (samples (10 ∷ 20 ∷ 40 ∷ [])) (samples (17 ∷ 20 ∷ 24 ∷ []))
@@ -73,7 +74,7 @@ pub record Starred : Type 0 where
   pub ratios : (wordOf (Ratio (power false (− 33))) ≡ word 1) × (wordOf (Ratio (power false (− 34))) ≡ refused 4) × (wordOf (Ratio (power true (pos 0))) ≡ refused 2)
 
 pub starred : Starred
-unfolding isWord inRange nearestWord ratioWord ratesWord position basepoint fraction fourteenBits registerOf stepped carryOf topBitOf advanceOf kernelOf column polynomial numerator unit nearestWhole rounded held output outside clips filterFraction windowAt outputOf clipOf isKernel isState neededAt started advanced taking rule fedOf outputsOf furthest countIn count
+unfolding isWord inRange nearestWord ratioWord ratesWord position basepoint fraction fourteenBits registerOf stepped carryOf topBitOf advanceOf kernelOf column polynomial numerator unit nearestWhole rounded held output outside clips filterFraction windowAt outputOf clipOf isKernel isState neededAt started advanced taking rule fedOf outputsOf lastRead countIn count
 starred = record {
   linear = (refl, refl);
   cubic = (refl, refl);

@@ -5,15 +5,10 @@ use Prim.Native.Nat.{ℕ}
 use lib.IntN.{ℤ}
 use lib.ListN.{length}
 use Rattle.oscillator.specs.declared.settings.Setting.the-variants.{Word}
-use Rattle.converter.specs.declared.state.State.{State}
 use Rattle.converter.specs.Start.{started}
 use Rattle.converter.specs.Feeding.{fedOf, outputsOf, over}
 
--- the converter as it starts
-abbrev pub fresh : ℕ → ℕ → ℕ → State
-fresh k w p = started k (Word w) p .state
-
--- the outputs written, and the output buffer, which held `old` and holds `left`
+-- from the state that a start returns: the outputs written, and the output buffer, which held `old` and holds `left`
 pub record TimedRight (k w p : ℕ) (input old : List ℤ) (answer : ℕ) (left : List ℤ) : Type 0 where
-  pub written : answer ≡ fedOf (fresh k w p) input (length old) .written
-  pub buffer : left ≡ over (outputsOf (fresh k w p) input (length old)) old
+  pub written : answer ≡ fedOf (started k (Word w) p .state) input (length old) .written
+  pub buffer : left ≡ over (outputsOf (started k (Word w) p .state) input (length old)) old

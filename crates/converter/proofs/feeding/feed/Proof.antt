@@ -3,7 +3,7 @@ use borrow.Author.Needs.{needs}
 use borrow.Author.Tests.{not-true, not-false}
 use mathlib.Core.Path.{refl, sym, _∙_}
 use denote.Ref.{now}
-use Rattle.converter.proofs.Closing.{refuses}
+use Rattle.converter.proofs.Finishing.{refuses}
 use Rattle.converter.proofs.feeding.feed.Statement.{statement}
 use Rattle.converter.proofs.feeding.feed.Tie as tie
 

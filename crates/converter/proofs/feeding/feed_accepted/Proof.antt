@@ -12,7 +12,7 @@ use lib.Seq.{length-take-le}
 use denote.Ref.{now}
 use Rattle.converter.specs.declared.state.State.{State}
 use Rattle.converter.proofs.States.{Sound, is-state}
-use Rattle.converter.proofs.Closing.{joint, first-fed, rest-fed, totals}
+use Rattle.converter.proofs.Finishing.{joint, first-fed, rest-fed, totals}
 use Rattle.converter.proofs.feeding.feed_accepted.Statement.{statement}
 use Rattle.converter.proofs.feeding.feed_accepted.Tie as tie
 
@@ -61,7 +61,7 @@ returns c =
     let p = c .before .before .before .before .before .pass-by in
     first-fed (s z) (xs z) (z .before .before .before .pre) (wide z) (joined z) (p .ensures)
     (λ h. ⊎-elim (λ t. let k = t .taken in absurd (omega (arith, size z))) (λ t. ltb-true _ _ (t .1 .taken)) (c .before .before .if1 .came))
-    (c .close .ensures)
+    (c .finish .ensures)
 
 returns-2 : tie.Need-returns-2
 returns-2 c =
@@ -69,7 +69,7 @@ returns-2 c =
     let z = start b in
     let p = first b .pass-by in
     rest-fed (s z) (xs z) (z .before .before .before .pre) (wide z) (joined z) (p .ensures) (omega (arith, size z, far b)) (many b) (c .before .before .pass-by2 .ensures)
-    (c .close2 .ensures)
+    (c .finish2 .ensures)
 
 join-requires : tie.Need-join-requires
 join-requires c κs = search needs
@@ -95,11 +95,11 @@ add-if1 c = let z = c .before .before .before .before .before in omega (arith, s
 array-share-prefix-joined-2 : tie.Need-array-share-prefix-joined-2
 array-share-prefix-joined-2 c = search needs
 
-slice-aggregate-close : tie.Need-slice-aggregate-close
-slice-aggregate-close c = sym (size (c .before .before .before .before .before .before .before))
+slice-aggregate-finish : tie.Need-slice-aggregate-finish
+slice-aggregate-finish c = sym (size (c .before .before .before .before .before .before .before))
 
-close-requires : tie.Need-close-requires
-close-requires c κs =
+finish-requires : tie.Need-finish-requires
+finish-requires c κs =
     let z = c .before .before .before .before .before .before .before in
     let f = c .before .before .before .before .pass-by .ensures .stands .passed in
     (omega (arith, size z), f .near, omega arith, omega (arith, f .room), omega (arith, f .room, f .few))
@@ -128,8 +128,8 @@ part-pass-by-end c = search needs
 pass-by-requires-2 : tie.Need-pass-by-requires-2
 pass-by-requires-2 c κs = let b = c .before in let h = sound (start b) in (omega (arith, h .kernel), h .below, omega (arith, far b .1), many b)
 
-close-requires-2 : tie.Need-close-requires-2
-close-requires-2 c κs =
+finish-requires-2 : tie.Need-finish-requires-2
+finish-requires-2 c κs =
     let b = c .before .before .before in
     let q = c .before .pass-by2 .ensures in
     let t = totals (first b .pass-by .ensures) q in
@@ -151,8 +151,8 @@ feed-accepted-spec =
     pass-by-requires
     add-if1
     array-share-prefix-joined-2
-    slice-aggregate-close
-    close-requires
+    slice-aggregate-finish
+    finish-requires
     same-length
     returns
     sub-pass-by
@@ -162,6 +162,6 @@ feed-accepted-spec =
     part-pass-by-start
     part-pass-by-end
     pass-by-requires-2
-    close-requires-2
+    finish-requires-2
     same-length-2
     returns-2)

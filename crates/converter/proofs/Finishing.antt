@@ -1,6 +1,7 @@
 -- How a feed ends: the run of the rule is a pass over the window and the first samples and, where more samples are needed after it, a pass over the input; what is answered
 -- after the last pass is what the run comes to. The laws about runs hold however an output lies in a buffer (g). Assumes nothing.
 use mathlib.Core.Path.{_≡_, refl, sym, ap, _∙_}
+use mathlib.Core.Logic.{_⊎_, inl, inr}
 use mathlib.Core.Bool.{Bool, true, false, cond}
 use mathlib.Core.List.{List, [], _∷_, _++_, append-nil, append-assoc}
 use Prim.Native.Nat.{ℕ, suc, _+_, _-_, _≤_, _<_}
@@ -14,26 +15,30 @@ use lib.Seq.{length-take-le, take-all, drop-drop}
 use Rattle.converter.specs.declared.state.State.{State}
 use Rattle.converter.specs.declared.pass.Progress.{Progress}
 use Rattle.converter.specs.declared.feeding.Fed.{Fed}
+use Rattle.converter.specs.declared.feeding.End.{End}
+use Rattle.converter.specs.declared.feeding.End.the-variants as end
 use Rattle.converter.specs.Start.{isState}
-use Rattle.converter.specs.Feeding.{HUNGRY, FULL, Ran, ended, rule, Answer, answerOf, accepted, refusedFeed, fedOf, outputsOf, over, FedRight}
-use Rattle.converter.specs.Pass.{windowFrom, gone, lastPlace, reached, laidBy, Laid, laid, following, onFrom, Passed, one, passing, PassRight, closing, headOf, joinedOf}
+use Rattle.converter.specs.Feeding.{HUNGRY, FULL, endNumber, Ran, ended, rule, Answer, answerOf, accepted, refusedFeed, over, FedRight}
+use Rattle.converter.specs.Pass.{windowFrom, gone, lastPlace, reached, laidBy, Laid, laid, following, onFrom, Passed, one, passing, PassRight, finishing, headOf, joinedOf}
 use Rattle.converter.proofs.Turns.{rule-full, rule-hungry}
+use Rattle.converter.proofs.Feeds.{fed-rule, fed-refused}
+use Rattle.converter.proofs.Passing.{following-nothing}
 
--- ---- what is answered after the last pass: an output is due within the samples, or samples are still needed
-pub closing-full : (s : State) (xs : List ℤ) (r : Progress) (t w c : ℕ) {v : List ℤ} → r .at ≤ lastPlace xs → v ≡ windowFrom xs (r .at)
-    → record { state = gone s (r .register) 0 v; taken = t + r .at; written = w + r .written; clips = c + r .clips; end = FULL; refusal = 0 }
-    ≡ closing s xs r t w c
-closing-full s xs r t w c h e =
-    let a : reached xs (r .at) ≡ r .at = omega arith in
-    let z : r .at - lastPlace xs ≡ 0 = omega arith in
-    rw (e, le-leb (r .at) (lastPlace xs) h, z, a)
+-- ---- what is answered after the last pass
+-- the place of the window that is kept, and the end: an output is due within the samples, or samples are still needed
+pub kept-place : (xs : List ℤ) (at : ℕ) {place : ℕ} {e : End}
+    → (at ≤ lastPlace xs × (place ≡ at) × (e ≡ end.Full)) ⊎ (lastPlace xs < at × (place ≡ lastPlace xs) × (e ≡ end.Hungry))
+    → (place ≡ reached xs at) × (endNumber e ≡ cond (leb at (lastPlace xs)) FULL HUNGRY)
+kept-place xs at (inl h) = (omega (arith, h .0, h .1), ap endNumber (h .2) ∙ rw (le-leb at (lastPlace xs) (h .0)))
+kept-place xs at (inr h) = (omega (arith, h .0, h .1), ap endNumber (h .2) ∙ rw (lt-leb at (lastPlace xs) (h .0)))
 
-pub closing-hungry : (s : State) (xs : List ℤ) (r : Progress) (t w c : ℕ) {v : List ℤ} → lastPlace xs < r .at → v ≡ windowFrom xs (lastPlace xs)
-    → record { state = gone s (r .register) (r .at - lastPlace xs) v; taken = t + lastPlace xs; written = w + r .written; clips = c + r .clips; end = HUNGRY; refusal = 0 }
-    ≡ closing s xs r t w c
-closing-hungry s xs r t w c h e =
-    let a : reached xs (r .at) ≡ lastPlace xs = omega arith in
-    rw (e, lt-leb (r .at) (lastPlace xs) h, a)
+pub finish-is : (s : State) (xs : List ℤ) (p : Progress) (t w c : ℕ) {place : ℕ} {window : List ℤ} {e : ℕ}
+    → (place ≡ reached xs (p .at)) × (e ≡ cond (leb (p .at) (lastPlace xs)) FULL HUNGRY) → window ≡ windowFrom xs place
+    → record { state = gone s (p .register) (p .at - place) window; taken = t + place; written = w + p .written; clips = c + p .clips; end = e; refusal = 0 }
+    ≡ finishing s xs p t w c
+finish-is s xs p t w c h k =
+    let n : p .at - reached xs (p .at) ≡ p .at - lastPlace xs = omega arith in
+    rw (k, h .0, h .1, n)
 
 -- ---- a run that ends with a pass
 -- the answer a with the outputs ys, as they lie in a buffer
@@ -60,7 +65,7 @@ module _ {A : Type 0} {g : ℤ → List A} {s : State} {xs : List ℤ} {space : 
       let d : left ≡ [] = rw (drop-of-length-le xs {i = reached xs (r .at) + 4} (omega arith)) (none h) in
       rw d (rule-hungry (space - r .written) (r .at - lastPlace xs - 1) here (omega arith))
 
-  pub pass-ends : (t : ℕ) (zs : List A) (w c : ℕ) → following t zs c (laid g (onFrom more xs space s (s .register) 0 (s .needed))) ≡ answered (closing s xs r t w c) (zs ++ ys)
+  pub pass-ends : (t : ℕ) (zs : List A) (w c : ℕ) → following t zs c (laid g (onFrom more xs space s (s .register) 0 (s .needed))) ≡ answered (finishing s xs r t w c) (zs ++ ys)
   unfolding laidBy
   pass-ends t zs w c =
       ap (following t zs c) (f .runs more ∙ ap (λ (x : Ran). following (reached xs (r .at)) ys (r .clips) (laid g x)) (stands (leb (r .at) (lastPlace xs)) refl))
@@ -111,19 +116,16 @@ module _ {A : Type 0} {g : ℤ → List A} (s : State) (xs : List ℤ) {space : 
 
   -- it ends with the first pass
   pub first-ends : (r .at ≤ lastPlace (joint s xs) → space ≤ r .written) → (lastPlace (joint s xs) < r .at → length xs < 4) → (w : ℕ)
-      → laid g (rule xs space s) ≡ answered (closing s (joint s xs) r 0 w 0) ys
+      → laid g (rule xs space s) ≡ answered (finishing s (joint s xs) r 0 w 0) ys
   first-ends stops few w =
       ap (laid g) over-joint
-      ∙ nothing-before (laid g (onFrom (drop 4 xs) (joint s xs) space (begun s) (s .register) 0 (s .needed)))
+      ∙ following-nothing (laid g (onFrom (drop 4 xs) (joint s xs) space (begun s) (s .register) 0 (s .needed)))
       ∙ pass-ends r long f stops (drop 4 xs) (λ h. drop-of-length-le xs {i = 4} (omega (arith, few h))) 0 [] w 0
-    where
-      nothing-before : (l : Laid A) → l ≡ following 0 [] 0 l
-      nothing-before l = rw (zero-add (l .taken), zero-add (l .clips))
 
   -- it ends with the second pass: past the first samples the window lies in the input
   pub rest-ends : (q : Progress) {zs : List A} → 4 ≤ length xs → lastPlace (joint s xs) < r .at
       → Passed g (onward s r) xs (space - r .written) zs (q .register) (q .at) (q .written) (q .clips) → (q .at ≤ lastPlace xs → space - r .written ≤ q .written) → (w : ℕ)
-      → laid g (rule xs space s) ≡ answered (closing s xs q 4 w (r .clips)) (ys ++ zs)
+      → laid g (rule xs space s) ≡ answered (finishing s xs q 4 w (r .clips)) (ys ++ zs)
   rest-ends q many past f' stops w =
       let size = joint-long s xs in
       let b : reached (joint s xs) (r .at) ≡ 4 = omega arith in
@@ -142,17 +144,16 @@ laid-one (x ∷ xs) = ap (λ (l : List ℤ). x ∷ l) (laid-one xs)
 
 answers : {s : State} {input old left ys : List ℤ} {f : Fed} (a : Answer) → isState s ≡ true → laid one (rule input (length old) s) ≡ answered a ys
     → length ys ≡ a .written → a .refusal ≡ 0 → answerOf f ≡ a → left ≡ over ys old → FedRight s input old f left
-unfolding fedOf outputsOf
 answers {s} {input} {old} {left} {ys} {f} a good h n z e l =
     let R : Ran = rule input (length old) s in
     let o : R .outputs ≡ ys = sym (laid-one (R .outputs)) ∙ ap (λ (x : Laid ℤ). x .outputs) h in
     let b : accepted R ≡ a = λ i. record { state = h i .state; taken = h i .taken; written = (ap length o ∙ n) i; clips = h i .clips; end = h i .end; refusal = sym z i } in
-    record { answer = rw good (e ∙ sym b); buffer = rw (good, o) l }
+    let r = fed-rule s good input (length old) in
+    record { answer = e ∙ sym b ∙ sym (r .0); buffer = rw (r .1, o) l }
 
 -- a state that is refused
 pub refuses : (s : State) (input old : List ℤ) {f : Fed} → isState s ≡ false → answerOf f ≡ refusedFeed s → FedRight s input old f old
-unfolding fedOf outputsOf
-refuses s input old bad e = record { answer = rw bad e; buffer = rw bad }
+refuses s input old bad e = let r = fed-refused s bad input (length old) in record { answer = e ∙ sym (r .0); buffer = rw (r .1) }
 
 -- what a pass leaves in its buffer
 fills : {s : State} {xs old left : List ℤ} {r : Progress} → PassRight s xs old r left
@@ -180,16 +181,16 @@ totals {s} {s'} {xs} {xs'} {old} {mid} {left} {r} {q} p p' =
 
 module _ (s : State) (xs : List ℤ) {J old : List ℤ} {r : Progress} {f : Fed} (good : isState s ≡ true) (wide : length (s .window) ≡ 4) (j : J ≡ joint s xs) where
   -- a feed that ends with the first pass
-  pub first-fed : {left : List ℤ} → PassRight (begun s) J old r left → (lastPlace J < r .at → length xs < 4) → answerOf f ≡ closing s J r 0 0 0 → FedRight s xs old f left
+  pub first-fed : {left : List ℤ} → PassRight (begun s) J old r left → (lastPlace J < r .at → length xs < 4) → answerOf f ≡ finishing s J r 0 0 0 → FedRight s xs old f left
   first-fed p few e =
       let first = rw j at p in
       let b = fills first in
-      answers (closing s (joint s xs) r 0 0 0) good (first-ends s xs r wide (first .stands .passed) (first .stops) (rw j at few) 0)
+      answers (finishing s (joint s xs) r 0 0 0) good (first-ends s xs r wide (first .stands .passed) (first .stops) (rw j at few) 0)
       (b .0 ∙ sym (zero-add (r .written))) refl (rw j at e) (rw (b .0) (b .1))
 
   -- a feed that ends with the second pass, to which the rest of the buffer was lent
   pub rest-fed : {mid left : List ℤ} {q : Progress} → PassRight (begun s) J old r mid → lastPlace J < r .at → 4 ≤ length xs → PassRight (onward s r) xs (lent mid (r .written)) q left
-      → answerOf f ≡ closing s xs q 4 (r .written) (r .clips) → FedRight s xs old f (take (r .written) mid ++ (left ++ drop (length mid - r .written) (drop (r .written) mid)))
+      → answerOf f ≡ finishing s xs q 4 (r .written) (r .clips) → FedRight s xs old f (take (r .written) mid ++ (left ++ drop (length mid - r .written) (drop (r .written) mid)))
   rest-fed {mid} {left} {q} p past many p' e =
       let w : ℕ = r .written in
       let space : length (drop w mid) ≡ length old - w = omega (arith, length-drop w mid, p .stands .long) in
@@ -201,5 +202,5 @@ module _ (s : State) (xs : List ℤ) {J old : List ℤ} {r : Progress} {f : Fed}
       let l : take w mid ++ left ≡ over (take w mid ++ take (q .written) left) old =
       rw (n, append-assoc, ← drop-drop (q .written) w old, ← p .stands .kept) (ap (λ (l : List ℤ). take w mid ++ l) (b' .1)) in
       rw (past-lent mid w, append-nil left)
-      (answers (closing s xs q 4 w (r .clips)) good
+      (answers (finishing s xs q 4 w (r .clips)) good
       (rest-ends s xs r wide (first .stands .passed) q many (rw j at past) (rw space at (second .stands .passed)) (rw space at (second .stops)) w) n refl e l)
