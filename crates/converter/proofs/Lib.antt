@@ -7,5 +7,6 @@ pub mod PaperRun
 pub mod Follows
 pub mod Third
 pub mod Traces
+pub mod OneFeed
 pub mod Passing
 pub mod Finishing

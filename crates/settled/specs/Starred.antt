@@ -45,6 +45,9 @@ Gives s xs ys = (outputsOf s xs 9 ≡ ys) × (fedOf s xs 9 ≡ record { state = 
 abbrev half : ℤ
 half = pos (2 ^ 13)
 
+abbrev extremes : List ℤ
+extremes = − 32768 ∷ pos 32767 ∷ pos 32767 ∷ − 32768 ∷ []
+
 pub record Starred : Type 0 where
   -- "Kernel 0, half word, 0, 100, 40: 0, 50, 100, 70."
   pub linear : Gives (card 0 (2 ^ 31) 0) (samples (0 ∷ 100 ∷ 40 ∷ [])) (samples (0 ∷ 50 ∷ 100 ∷ 70 ∷ []))
@@ -64,8 +67,9 @@ pub record Starred : Type 0 where
   pub fourteen : (fourteenBits (pos 0x3FFFF) ≡ pos 0) × (fourteenBits (pos 0x40000) ≡ pos 1)
   -- "Kernel 0 at 1/2: 0, 1 gives 1; 0, −1 gives 0."
   pub halves : (output (kernelOf 0) (four (pos 0) (pos 0) (pos 1) (pos 0)) half ≡ pos 1) × (output (kernelOf 0) (four (pos 0) (pos 0) (− 1) (pos 0)) half ≡ pos 0)
-  -- "Kernel 3 at 1/2: −32768, 32767, 32767, −32768 gives 32767, one clip."
+  -- "Kernel 3 at 1/2: −32768, 32767, 32767, −32768 gives 32767, one clip." In a run it is the second output, at 3/2
   pub clip : (output (kernelOf 3) (four (− 32768) (pos 32767) (pos 32767) (− 32768)) half ≡ pos 32767) × (clips (kernelOf 3) (four (− 32768) (pos 32767) (pos 32767) (− 32768)) half ≡ true)
+  pub one-clip : (outputsOf (card 3 (2 ^ 32) (2 ^ 31)) extremes 9 ≡ − 2048 ∷ pos 32767 ∷ []) × (fedOf (card 3 (2 ^ 32) (2 ^ 31)) extremes 9 .clips ≡ 1)
   -- "Word 2^34, kernel 0, nine samples, P 0: two outputs": the card's, and the paper's c
   pub largest-word : Gives (card 0 (2 ^ 34) 0) (samples (1 ∷ 2 ∷ 3 ∷ 4 ∷ 5 ∷ 6 ∷ 7 ∷ 8 ∷ 9 ∷ [])) (samples (1 ∷ 5 ∷ [])) × (count (kernelOf 0) (2 ^ 34) 0 9 ≡ 2)
   -- "Rates 1 and 3: 1431655765; 2 and 3: 2863311531."
@@ -86,6 +90,7 @@ starred = record {
   fourteen = (refl, refl);
   halves = (refl, refl);
   clip = (refl, refl);
+  one-clip = (refl, refl);
   largest-word = ((refl, refl), refl);
   thirds = (refl, refl);
   ratios = (refl, refl, refl);
