@@ -4,7 +4,7 @@ ghost use Prim.Native.Nat.{_+_, _^_, _≤_, _<_};
 ghost use lib.ListN.{length};
 ghost use Rattle.converter.specs.Pass.{windowFrom, passing, StretchRight, PassRight};
 
-// Where a pass stands: the register and the place of the next output's window, past the last place where samples are still needed, and what was written.
+// Where a pass stands: the next output's register, and `at`, where its window begins in the samples (past length − 4, samples are still needed); and what was written so far.
 pub struct Progress {
     pub register: u32,
     pub at: usize,
