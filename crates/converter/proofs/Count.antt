@@ -2,13 +2,14 @@
 use mathlib.Core.Path.{_≡_, refl, ap}
 use mathlib.Core.Bool.{Bool, true, false}
 use mathlib.Core.Logic.{_↔_}
-use mathlib.Core.List.{List, [], _∷_}
+use mathlib.Core.List.{List, [], _∷_, map}
 use Prim.Native.Nat.{ℕ, zero, suc, _+_, _*_, _^_, _≤_, _<_}
 use native.Mathlib.Omega.{arith}
 use native.Mathlib.Decide.{decLt}
 use borrow.Author.Tests.{ltb-true, ltb-false}
 use lib.Dec.{ltb}
-use lib.ListN.{length}
+use lib.IntN.{ℤ, pos}
+use lib.ListN.{length, getD}
 use Rattle.oscillator.proofs.Positions.{basepoint-mono, basepoint-far}
 use Rattle.kernels.specs.Kernel.{Kernel}
 use Rattle.converter.specs.Start.{lastRead}
@@ -22,6 +23,17 @@ ahead-sum q w (suc i) = omega (arith, ahead-sum (q + w) w i)
 pub first-length : (q w c : ℕ) → length (first q w c) ≡ c
 first-length q w zero = refl
 first-length q w (suc c) = ap suc (first-length (q + w) w c)
+
+-- position i of them, and what holds of it
+pub first-at : (q w c i : ℕ) → i < c → getD (first q w c) i 0 ≡ ahead q w i
+first-at q w zero i l = absurd (omega arith)
+first-at q w (suc c) zero l = refl
+first-at q w (suc c) (suc i) l = first-at (q + w) w c i (omega arith)
+
+pub map-at : (g : ℕ → ℤ) (qs : List ℕ) (i : ℕ) → i < length qs → getD (map g qs) i (pos 0) ≡ g (getD qs i 0)
+map-at g [] i l = absurd (omega arith)
+map-at g (q ∷ qs) zero l = refl
+map-at g (q ∷ qs) (suc i) l = map-at g qs i (omega arith)
 
 ahead-up : (q w i : ℕ) → q ≤ ahead q w i
 ahead-up q w i = omega (arith, ahead-sum q w i)

@@ -17,7 +17,7 @@ use Rattle.converter.specs.Start.{isState}
 use Rattle.converter.specs.Feeding.{HUNGRY, FULL, Ran, rule, Answer, answerOf, accepted, fedOf, outputsOf, over, FedRight}
 use Rattle.converter.proofs.States.{Sound, state-is}
 use Rattle.converter.proofs.Turns.{rule-full, rule-hungry, by-need}
-use Rattle.converter.proofs.Runs.{rule-ending, ending-sizes, rule-sound, rule-more, ran, then}
+use Rattle.converter.proofs.Runs.{rule-ending, ending-sizes, rule-sound, rule-more, ran, then, nothing-then}
 
 -- ---- by the state: accepted or refused
 pub fed-rule : (s : State) → isState s ≡ true → (xs : List ℤ) (n : ℕ) → (fedOf s xs n ≡ accepted (rule xs n s)) × (outputsOf s xs n ≡ rule xs n s .outputs)
@@ -144,8 +144,7 @@ goesOn z r = ran (r .state) (z .taken + r .taken) (z .outputs ++ r .outputs) (z 
 pub in-pieces : (rest : List ℤ) (ps : List Piece) (s : State) → Sound s → s .register < 2 ^ 32 → (m : ℕ)
     → let z = pieces rest ps s in rule (rest ++ blocks ps) (length (z .outputs) + m) s ≡ goesOn z (rule (z .rest) m (z .state))
 in-pieces rest [] s h l m =
-    let r : Ran = rule rest m s in
-    (λ i. rule (append-nil rest i) (zero-add m i) s) ∙ (λ i. ran (r .state) (sym (zero-add (r .taken)) i) (r .outputs) (sym (zero-add (r .clips)) i) (r .end))
+    (λ i. rule (append-nil rest i) (zero-add m i) s) ∙ nothing-then s HUNGRY (rule rest m s)
 in-pieces rest (p ∷ ps) s h l m =
     let xs : List ℤ = rest ++ p .block in
     let r : Ran = rule xs (p .space) s in

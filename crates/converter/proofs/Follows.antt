@@ -6,7 +6,7 @@ use Prim.Native.Nat.{ℕ, zero, suc, _+_, _-_, _^_, _≤_, _<_}
 use native.Mathlib.Omega.{arith}
 use borrow.Author.Tests.{le-leb, lt-leb}
 use lib.IntN.{ℤ}
-use lib.ListN.{length, take, length-append}
+use lib.ListN.{length, take, getD, length-append}
 use lib.Seq.{length-take-le}
 use Rattle.oscillator.specs.declared.settings.Setting.{Setting}
 use Rattle.oscillator.specs.Position.{basepoint}
@@ -23,7 +23,7 @@ use Rattle.converter.specs.Demand.{clipsAt}
 use Rattle.converter.proofs.Turns.{rule-ind}
 use Rattle.converter.proofs.Runs.{Ending, full, hungry}
 use Rattle.converter.proofs.States.{Sound, state-is, sound-advanced, sound-taking, start-accepted}
-use Rattle.converter.proofs.Count.{before-only, count-law, count-first}
+use Rattle.converter.proofs.Count.{first-length, first-at, before-only, count-law, count-first}
 
 -- ---- the state that stands where the paper stands
 abbrev pub kernelIn : Paper → Kernel
@@ -129,10 +129,13 @@ pub reached-append : (κ : Kernel) (n : ℕ) (qs rs : List ℕ) → Reached κ n
 reached-append κ n [] rs h g = g
 reached-append κ n (q ∷ qs) rs h g = (h .0, reached-append κ n qs rs (h .1) g)
 
+pub reached-at : (κ : Kernel) (n : ℕ) (qs : List ℕ) → Reached κ n qs → (i : ℕ) → i < length qs → lastRead κ (getD qs i 0) < n
+reached-at κ n [] h i l = absurd (omega arith)
+reached-at κ n (q ∷ qs) h zero l = h .0
+reached-at κ n (q ∷ qs) h (suc i) l = reached-at κ n qs (h .1) i (omega arith)
+
 reached-first : (κ : Kernel) (n q w i c : ℕ) → Reached κ n (first q w c) → i < c → lastRead κ (ahead q w i) < n
-reached-first κ n q w i zero h l = absurd (omega arith)
-reached-first κ n q w zero (suc c) h l = h .0
-reached-first κ n q w (suc i) (suc c) h l = reached-first κ n (q + w) w i c (h .1) (omega arith)
+reached-first κ n q w i c h l = rw (first-at q w c i l) at (reached-at κ n (first q w c) h i (omega (arith, first-length q w c)))
 
 module _ (k : ℕ) (xs ys : List ℤ) where
   pub values-more : (qs : List ℕ) → Reached (kernelOf k) (length xs) qs → map (value (kernelOf k) (xs ++ ys)) qs ≡ map (value (kernelOf k) xs) qs

@@ -1,7 +1,7 @@
 -- Demand 3 of a list of one feed, in numbers that a user can check. All of it is read off `third`, so that a statement which says less is refused here. Assumes nothing.
 use mathlib.Core.Path.{_≡_, refl, sym, ap, subst, _∙_}
 use mathlib.Core.Bool.{Bool, true, false}
-use mathlib.Core.List.{List, [], _∷_, _++_, map, append-nil}
+use mathlib.Core.List.{List, [], _∷_, _++_, append-nil}
 use mathlib.Core.Logic.{_↔_}
 use Prim.Native.Nat.{ℕ, zero, suc, _+_, _*_, _^_, _≤_, _<_}
 use native.Mathlib.Omega.{arith}
@@ -22,21 +22,10 @@ use Rattle.converter.specs.Start.{lastRead, started}
 use Rattle.converter.specs.Feeding.{endNumber, FedRight}
 use Rattle.converter.specs.Paper.{Compared, fed, tuned, Paper, Did, wordIn, ahead, first, BeforeFirst, count, outputsOver, joins, counted, feeds, does, run, afterwards, positions}
 use Rattle.converter.specs.Demand.{Call, feed, Seen, outputs, clipsAt, EachEnds, Agreement, Agrees}
-use Rattle.converter.proofs.Count.{first-length, before-only, count-first, standing, outputs-first}
+use Rattle.converter.proofs.Count.{ahead-sum, first-length, first-at, map-at, before-only, count-first, standing, outputs-first}
 use Rattle.converter.proofs.Third.{third}
 
--- ---- positions a word apart
-first-at : (q w c i : ℕ) → i < c → getD (first q w c) i 0 ≡ q + i * w
-first-at q w zero i l = absurd (omega arith)
-first-at q w (suc c) zero l = omega arith
-first-at q w (suc c) (suc i) l = first-at (q + w) w c i (omega arith) ∙ omega arith
-
-map-first : (g : ℕ → ℤ) (q w c i : ℕ) → i < c → getD (map g (first q w c)) i (pos 0) ≡ g (q + i * w)
-map-first g q w zero i l = absurd (omega arith)
-map-first g q w (suc c) zero l = ap g (omega arith)
-map-first g q w (suc c) (suc i) l = map-first g (q + w) w c i (omega arith) ∙ ap g (omega arith)
-
--- those made and those ahead are those from the start on
+-- ---- positions a word apart: those made and those ahead are those from the start on
 standing-first : (q w c i : ℕ) → standing (first q w c) (ahead q w c) w i ≡ ahead q w i
 standing-first q w zero i = refl
 standing-first q w (suc c) zero = refl
@@ -115,14 +104,17 @@ module _ (k : ℕ) (a : Setting) (P w : ℕ) (l : P < 2 ^ 32) (ew : wordOf a ≡
     within : i < length (first P w (f .written))
     within = omega (arith, first-length P w (f .written))
 
+    stands : getD (first P w (f .written)) i 0 ≡ P + i * w
+    stands = first-at P w (f .written) i m ∙ ahead-sum P w i
+
     pub one-output : getD left i (pos 0) ≡ value (kernelOf k) (take (f .taken) input) (P + i * w)
-    one-output = sym output-is ∙ ap (λ zs. getD zs i (pos 0)) (agreement .values) ∙ map-first (value (kernelOf k) (take (f .taken) input)) P w (f .written) i m
+    one-output = sym output-is ∙ ap (λ zs. getD zs i (pos 0)) (agreement .values) ∙ map-at (value (kernelOf k) (take (f .taken) input)) (first P w (f .written)) i within ∙ ap (value (kernelOf k) (take (f .taken) input)) stands
 
     pub one-close : CloseAt (kernelOf k) (take (f .taken) input) (P + i * w) (getD left i (pos 0))
-    one-close = rw (first-at P w (f .written) i m, output-is) at (agreement .close i within)
+    one-close = rw (stands, output-is) at (agreement .close i within)
 
     pub one-reached : lastRead (kernelOf k) (P + i * w) < length (take (f .taken) input)
-    one-reached = rw (first-at P w (f .written) i m) at (agreement .reached i within)
+    one-reached = rw stands at (agreement .reached i within)
 
   pub one-clips : f .clips ≡ clipsAt (kernelOf k) (take (f .taken) input) (first P w (f .written))
   one-clips = ap (λ ns. getD ns 0 0) (agreement .clips)

@@ -57,7 +57,7 @@ ran s t ys c e = record { state = s; taken = t; outputs = ys; clips = c; end = e
 abbrev pub then : Ran → Ran → Ran
 then r z = ran (z .state) (r .taken + z .taken) (r .outputs ++ z .outputs) (r .clips + z .clips) (z .end)
 
-nothing-then : (s : State) (e : ℕ) (z : Ran) → z ≡ then (ended s e) z
+pub nothing-then : (s : State) (e : ℕ) (z : Ran) → z ≡ then (ended s e) z
 nothing-then s e z = λ i. ran (z .state) (sym (zero-add (z .taken)) i) (z .outputs) (sym (zero-add (z .clips)) i) (z .end)
 
 wrote-then : (s : State) (r z : Ran) → wrote s (then r z) ≡ then (wrote s r) z

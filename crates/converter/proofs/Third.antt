@@ -2,7 +2,7 @@
 use mathlib.Core.Path.{_≡_, refl, sym, ap, subst, _∙_}
 use mathlib.Core.Bool.{true}
 use mathlib.Core.List.{List, [], _∷_, _++_, map, map-append}
-use Prim.Native.Nat.{ℕ, zero, suc, _+_, _<_}
+use Prim.Native.Nat.{ℕ, _+_}
 use native.Mathlib.Omega.{arith}
 use borrow.Author.Tests.{lt-ltb}
 use lib.IntN.{ℤ, pos}
@@ -25,10 +25,10 @@ use Rattle.converter.specs.Demand.{Call, feed, retune, Meets, after, See
 use Rattle.converter.proofs.States.{retune-setting, retune-word}
 use Rattle.converter.proofs.Runs.{Ending, full, hungry, rule-ending, ending-sizes}
 use Rattle.converter.proofs.Feeds.{fed-rule}
-use Rattle.converter.proofs.Count.{first-length, count-none, count-some}
+use Rattle.converter.proofs.Count.{first-length, map-at, count-none, count-some}
 use Rattle.converter.proofs.PaperRun.{onward, run-made, run-grows}
 use Rattle.converter.proofs.Follows.{kernelIn, last, Sync, needed-is, sync-state, start-sync, sync-retune, alike, Placed, follows, same}
-use Rattle.converter.proofs.Follows.{Reached, reached-up, reached-append, values-more, clips-at-more}
+use Rattle.converter.proofs.Follows.{Reached, reached-at, reached-up, reached-append, values-more, clips-at-more}
 
 -- ---- a feed that is not refused: what it handed back is the rule's
 abbrev pub ranOf : Fed → List ℤ → Ran
@@ -214,17 +214,6 @@ each-ends (retune a r ∷ cs) s p qs n m y b h =
     each-ends cs (r .state) _ qs n m (t .sync) g (h .1)
 
 -- ---- the demand
--- by index
-reached-at : (κ : Kernel) (n : ℕ) (qs : List ℕ) → Reached κ n qs → (k : ℕ) → k < length qs → lastRead κ (getD qs k 0) < n
-reached-at κ n [] h k l = absurd (omega arith)
-reached-at κ n (q ∷ qs) h zero l = h .0
-reached-at κ n (q ∷ qs) h (suc k) l = reached-at κ n qs (h .1) k (omega arith)
-
-close-at : (j : ℕ) (xs : List ℤ) (qs : List ℕ) (k : ℕ) → k < length qs → CloseAt (kernelOf j) xs (getD qs k 0) (getD (map (value (kernelOf j) xs) qs) k (pos 0))
-close-at j xs [] k l = absurd (omega arith)
-close-at j xs (q ∷ qs) zero l = value-close j xs q
-close-at j xs (q ∷ qs) (suc k) l = close-at j xs qs k (omega arith)
-
 -- from any state that stands where a paper stands which has done nothing yet
 agrees : (s : State) (p : Paper) → Sync s p → p .joined ≡ [] → p .made ≡ 0 → (cs : List Call) → Seen s cs → Agrees p cs
 agrees s p y none zero-made cs h =
@@ -237,7 +226,7 @@ agrees s p y none zero-made cs h =
       values = g .values;
       made = omega (arith, run-made (map given cs) p, ap length (g .values), length-map (positions did) (value κ X));
       reached = reached-at κ (length X) (positions did) (g .reached);
-      close = λ k l. subst (λ zs. CloseAt κ X (getD (positions did) k 0) (getD zs k (pos 0))) (sym (g .values)) (close-at (p .kernel) X (positions did) k l);
+      close = λ k l. subst (λ zs. CloseAt κ X (getD (positions did) k 0) (getD zs k (pos 0))) (sym (g .values)) (rw (map-at (value κ X) (positions did) k l) (value-close (p .kernel) X (getD (positions did) k 0)));
       clips = g .clips;
       ends = each-ends cs s p [] 0 0 y (record { samples = omega (arith, ap length none); made = refl; reached = tt }) h;
     }
