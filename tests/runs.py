@@ -365,8 +365,9 @@ def settled():               # "Settled examples"
     assert word_of(("ratio", -1.0)) == (0, 2) and word_of(("ratio", 2.0**1000)) == (0, 4)
     assert word_of(("ratio", 4 + 2.0**-34)) == (2**34, 0) and word_of(("ratio", 4 + 2.0**-33)) == (0, 4)
 
-settled()
-for group, name in enumerate(["kernel 0", "kernel 1", "kernel 2", "kernel 3", "any kernel", "states handed in"]):
-    t = lists(group)
-    print(f"{name}: {t.calls} calls, hash {t.hash}, taken {t.taken}, written {t.written},"
-          f" clips {t.clips}, refused {t.refused}")
+if __name__ == "__main__":   # program.py and vectors.py use the functions above
+    settled()
+    for group, name in enumerate(["kernel 0", "kernel 1", "kernel 2", "kernel 3", "any kernel", "states handed in"]):
+        t = lists(group)
+        print(f"{name}: {t.calls} calls, hash {t.hash}, taken {t.taken}, written {t.written},"
+              f" clips {t.clips}, refused {t.refused}")
