@@ -9,4 +9,5 @@ pub use feeding::feed;
 pub use state::Retuned;
 pub use state::Started;
 pub use state::State;
+pub use state::is_kernel;
 pub use state::start;

@@ -25,7 +25,8 @@ pub struct Retuned {
     pub refusal: u8,
 }
 
-fn is_kernel(kernel: u8) -> bool
+// What refusal 1 asks of a kernel number.
+pub fn is_kernel(kernel: u8) -> bool
     ensures { λ r. ⌜ r ≡ isKernel kernel ⌝ }
 {
     kernel <= 3

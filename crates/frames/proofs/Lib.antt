@@ -1,0 +1,5 @@
+pub mod Hex
+pub mod Lines
+pub mod Fronts
+pub mod Frames
+pub mod Starts

@@ -1,0 +1,4 @@
+pub mod Line
+pub mod Frame
+pub mod Start
+pub mod Front

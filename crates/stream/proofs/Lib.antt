@@ -1,0 +1,10 @@
+pub mod Lines
+pub mod Input
+pub mod Outputs
+pub mod Steps
+pub mod Whole
+pub mod Progress
+pub mod Turning
+pub mod Sizes
+pub mod Moving
+pub mod Examples

@@ -1,0 +1,3 @@
+pub mod Program
+pub mod Turn
+pub mod Whole

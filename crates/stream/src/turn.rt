@@ -1,0 +1,236 @@
+// One turn of the program: at most one line is read, and what it gives is written.
+use crate::text::put_end;
+use crate::text::put_outputs;
+use crate::text::put_refusal;
+use converter::End;
+use converter::Fed;
+use converter::State;
+use oscillator::Setting;
+ghost use mathlib.Core.Path.{_≡_};
+ghost use mathlib.Core.List.{List};
+ghost use Prim.Native.Nat.{_+_, _*_, _^_, _≤_, _<_, min};
+ghost use lib.IntN.{ℤ};
+ghost use lib.ListN.{length, drop};
+ghost use Rattle.converter.specs.Feeding.{answerOf, fedOf, outputsOf};
+ghost use Rattle.frames.specs.Line.{used};
+ghost use Rattle.frames.specs.Frame.{dataLine};
+ghost use Rattle.frames.specs.Start.{startLine};
+ghost use Rattle.stream.specs.Program.{endLine};
+ghost use Rattle.stream.specs.Turn.{opened, asks, ends, refuses, startTurn, fedTurn, feedTurn, dataTurn, turnAnswer, spaceIn, Wrote, TurnRight};
+
+// Where a run stands between two turns: the converter's state once the K line is read, how many samples of the D line at the front of the unread bytes are taken, and the counts
+// of the E line.
+pub struct Stream {
+    pub state: State,
+    pub started: bool,
+    pub skip: usize,
+    pub outputs: u64,
+    pub clips: u64,
+}
+
+// What the caller does next: make another turn, read more input first, empty the text first, or stop.
+pub enum Next {
+    Again,
+    Read,
+    Write,
+    Done,
+}
+
+// `used` of the unread bytes are read, and `written` bytes of text are written.
+pub struct Turn {
+    pub stream: Stream,
+    pub used: usize,
+    pub written: usize,
+    pub next: Next,
+}
+
+// The stream before the K line.
+pub fn open() -> Stream
+    ensures { λ r. ⌜ r ≡ opened ⌝ }
+{
+    Stream {
+        state: State {
+            kernel: 0,
+            needed: 0,
+            register: 0,
+            word: 0,
+            window: [0i16; 4],
+        },
+        started: false,
+        skip: 0,
+        outputs: 0,
+        clips: 0,
+    }
+}
+
+// A turn that reads and writes nothing.
+fn asks(s: Stream, next: Next) -> Turn
+    ensures { λ r. ⌜ r ≡ turnAnswer (asks s next) ⌝ }
+{
+    Turn {
+        stream: s,
+        used: 0,
+        written: 0,
+        next: next,
+    }
+}
+
+// The last turn of a run with a line that is refused, unless the line may still be to come.
+fn refuses(s: Stream, refusal: u8, have: usize, ended: bool, text: &mut [u8]) -> Turn
+    requires { ⌜ (refusal < 100) × (34 ≤ length (now text)) ⌝ }
+    ensures { λ r. ⌜ Wrote (refuses s refusal have ended) (now (text .entry)) r (now (text .exit)) ⌝ }
+{
+    if refusal == 6 && !ended && have < 270 {
+        return asks(s, Next::Read);
+    }
+    put_refusal(refusal, text);
+    Turn {
+        stream: s,
+        used: 0,
+        written: 4,
+        next: Next::Done,
+    }
+}
+
+// A turn that reads the K line.
+fn start_turn(s: Stream, bytes: &[u8], ended: bool, text: &mut [u8]) -> Turn
+    requires { ⌜ 34 ≤ length (now text) ⌝ }
+    ensures { λ r. ⌜ Wrote (startTurn s (startLine (now (bytes .entry))) (now (bytes .entry)) ended) (now (text .entry)) r (now (text .exit)) ⌝ }
+{
+    let k = frames::read_start(bytes);
+    if k.refusal != 0 {
+        return refuses(s, k.refusal, bytes.len(), ended, text);
+    }
+    let started = converter::start(k.kernel, Setting::Word(k.word), k.phase);
+    let state = started.state;
+    Turn {
+        stream: Stream {
+            state: state,
+            started: true,
+            skip: 0,
+            outputs: 0,
+            clips: 0,
+        },
+        used: 20,
+        written: 0,
+        next: Next::Again,
+    }
+}
+
+// Space for the outputs of a turn.
+fn outputs_block() -> [i16; 512]
+    ensures { λ r. ⌜ 512 ≡ length r ⌝ }
+{
+    [0i16; 512]
+}
+
+// Space for the samples of a line.
+fn samples_block() -> [i16; 64]
+    ensures { λ r. ⌜ 64 ≡ length r ⌝ }
+{
+    [0i16; 64]
+}
+
+fn least(a: usize, b: usize) -> usize
+    ensures { λ r. ⌜ r ≡ min a b ⌝ }
+{
+    if a < b { a } else { b }
+}
+
+// The turn of a feed that wrote its outputs as text.
+fn fed_turn(s: Stream, size: usize, fed: Fed) -> Turn
+    requires { ⌜ (s .skip + fed .taken < 2 ^ 64) × (fed .written * 5 < 2 ^ 63) ⌝ }
+    ensures { λ r. ⌜ ((ys : List ℤ) → length ys ≡ fed .written → r ≡ turnAnswer (fedTurn s size (answerOf fed) ys)) ⌝ }
+{
+    let mut used = size;
+    let mut skip: usize = 0;
+    let end = fed.end;
+    match end {
+        End::Hungry => {}
+        End::Full => {
+            used = 0;
+            skip = s.skip + fed.taken;
+        }
+    }
+    let state = fed.state;
+    let written = fed.written;
+    Turn {
+        stream: Stream {
+            state: state,
+            started: true,
+            skip: skip,
+            outputs: std::num::wrapping_add_u64(s.outputs, written as u64),
+            clips: std::num::wrapping_add_u64(s.clips, fed.clips as u64),
+        },
+        used: used,
+        written: written * 5,
+        next: Next::Again,
+    }
+}
+
+// Feeds the samples of a line that are not taken yet, and writes the outputs as text. The line is `size` bytes long.
+fn feed_turn(s: Stream, size: usize, samples: &[i16], text: &mut [u8]) -> Turn
+    requires { ⌜ 34 ≤ length (now text) ⌝ }
+    ensures { λ r. ⌜ Wrote (feedTurn s size (fedOf (s .state) (drop (s .skip) (now (samples .entry))) (spaceIn (length (now (text .entry))))) (outputsOf (s .state) (drop (s .skip) (now (samples .entry))) (spaceIn (length (now (text .entry)))))) (now (text .entry)) r (now (text .exit)) ⌝ }
+{
+    let skip = least(s.skip, samples.len());
+    let mut outputs = outputs_block();
+    let space = least(text.len() / 5, 512);
+    let fed = converter::feed(s.state, &samples[skip..], &mut outputs[..space]);
+    if fed.refusal != 0 {
+        put_refusal(fed.refusal, text);
+        return Turn {
+            stream: s,
+            used: 0,
+            written: 4,
+            next: Next::Done,
+        };
+    }
+    let written = fed.written;
+    put_outputs(&outputs[..written], text);
+    fed_turn(s, size, fed)
+}
+
+// The last turn of a run whose input has ended.
+fn end_turn(s: Stream, text: &mut [u8]) -> Turn
+    requires { ⌜ 34 ≤ length (now text) ⌝ }
+    ensures { λ r. ⌜ Wrote (ends s (endLine (s .outputs) (s .clips))) (now (text .entry)) r (now (text .exit)) ⌝ }
+{
+    put_end(s.outputs, s.clips, text);
+    Turn {
+        stream: s,
+        used: 0,
+        written: 34,
+        next: Next::Done,
+    }
+}
+
+// A turn that reads a D line.
+fn data_turn(s: Stream, bytes: &[u8], ended: bool, text: &mut [u8]) -> Turn
+    requires { ⌜ 34 ≤ length (now text) ⌝ }
+    ensures { λ r. ⌜ Wrote (dataTurn s (dataLine 64 (now (bytes .entry))) (now (bytes .entry)) ended (length (now (text .entry)))) (now (text .entry)) r (now (text .exit)) ⌝ }
+{
+    let mut samples = samples_block();
+    let d = frames::read_data(bytes, &mut samples);
+    if d.refusal != 0 {
+        return refuses(s, d.refusal, bytes.len(), ended, text);
+    }
+    let count = d.count;
+    feed_turn(s, 14 + count * 4, &samples[..count], text)
+}
+
+// Reads at most one line of the unread bytes, which are the whole rest of the input where it has ended, and writes what it gives to the front of the text.
+pub fn make_turn(s: Stream, bytes: &[u8], ended: bool, text: &mut [u8]) -> Turn
+    ensures { λ r. ⌜ TurnRight s (now (bytes .entry)) ended (now (text .entry)) r (now (text .exit)) ⌝ }
+{
+    if text.len() < 34 {
+        return asks(s, Next::Write);
+    }
+    if !s.started {
+        return start_turn(s, bytes, ended, text);
+    }
+    if ended && bytes.len() == 0 {
+        return end_turn(s, text);
+    }
+    data_turn(s, bytes, ended, text)
+}
