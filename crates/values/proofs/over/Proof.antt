@@ -1,8 +1,8 @@
--- `vectors::over` is safe and ends after as many turns as it is given. Assumes nothing.
+-- `values::over` is safe and ends after as many turns as it is given. Assumes nothing.
 use Prim.Native.Nat.{_≤_, _-_}
 use borrow.Author.Needs.{needs}
-use Rattle.vectors.proofs.over.Statement.{statement}
-use Rattle.vectors.proofs.over.Tie as tie
+use Rattle.values.proofs.over.Statement.{statement}
+use Rattle.values.proofs.over.Tie as tie
 
 abbrev Inv-loop : tie.InvT-loop
 Inv-loop kernel drawn cases tally₀ state₀ i₀ tally state i = i ≤ cases
