@@ -3,7 +3,7 @@ use crate::digits::all_digits;
 ghost use mathlib.Core.Path.{_≡_};
 ghost use Prim.Native.Nat.{_+_, _≤_};
 ghost use lib.ListN.{length, take, drop};
-ghost use Rattle.frames.specs.Line.{before10, used};
+ghost use Rattle.frames.specs.Line.{before10};
 ghost use Rattle.frames.specs.Front.{FrontRight};
 
 // The place of a line's byte 10, where the line is not refused with 6, 7 or 8.

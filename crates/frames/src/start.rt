@@ -5,7 +5,6 @@ use crate::line::tail;
 ghost use mathlib.Core.Path.{_≡_};
 ghost use mathlib.Core.Bool.{true};
 ghost use Prim.Native.Nat.{_+_, _≤_};
-ghost use lib.ListN.{length};
 ghost use Rattle.frames.specs.Line.{allDigits, rest, used};
 ghost use Rattle.frames.specs.Start.{startOf, startLine, startAnswer};
 

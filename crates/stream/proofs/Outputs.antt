@@ -1,5 +1,5 @@
 -- What is written of the samples to come, from wherever the paper stands: a feed writes the front of it, and leaves the rest. Assumes nothing.
-use mathlib.Core.Path.{_≡_, refl, sym, ap, _∙_}
+use mathlib.Core.Path.{_≡_, sym, ap, _∙_}
 use mathlib.Core.List.{List, [], _∷_, _++_, map, map-append, append-assoc, append-nil}
 use Prim.Native.Nat.{ℕ, zero, suc, _+_, _*_, _≤_, _<_}
 use native.Mathlib.Omega.{arith}
@@ -14,8 +14,7 @@ use Rattle.converter.specs.Paper.{Paper, ahead, first, count}
 use Rattle.converter.specs.Demand.{clipsAt}
 use Rattle.converter.proofs.Count.{first-length, before-only, count-first, count-none}
 use Rattle.converter.proofs.Follows.{kernelIn, last, Reached, reached-up, values-more, clips-at-more, alike, Placed}
-use Rattle.frames.specs.Line.{digitsOf}
-use Rattle.stream.specs.Program.{outputLine, outputLines, positionsOver, lastLine}
+use Rattle.stream.specs.Program.{outputLines, positionsOver, lastLine}
 use Rattle.stream.proofs.Lines.{outputs-append}
 
 -- ---- positions: the first a of them, and those after
