@@ -102,7 +102,7 @@ unfoldable pub outputsOf : State → List ℤ → ℕ → List ℤ
 outputsOf s xs n = cond (isState s) (rule xs n s .outputs) []
 
 -- "Output places past those written keep their contents"
-abbrev pub over : List ℤ → List ℤ → List ℤ
+abbrev pub over : {A : Type 0} → List A → List A → List A
 over ys old = ys ++ drop (length ys) old
 
 -- What a feed owes that was handed the state s and the input: its answer f, and the output buffer, which held `old` and holds `left` when it returns.

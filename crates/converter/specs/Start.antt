@@ -38,8 +38,11 @@ abbrev pub fresh : ℕ → ℕ → ℕ → State
 fresh k w p = record { kernel = k; needed = neededAt k p; register = p; word = w; window = silence }
 
 -- "no state" is one of zeros, whose word 0 every other call refuses with 5 (law `no-state`; document 01 leaves its form open, decision 29)
+abbrev pub noState : State
+noState = record { kernel = 0; needed = 0; register = 0; word = 0; window = silence }
+
 abbrev pub refusedStart : ℕ → Started
-refusedStart n = record { state = record { kernel = 0; needed = 0; register = 0; word = 0; window = silence }; refusal = n }
+refusedStart n = record { state = noState; refusal = n }
 
 -- by what the setting comes to: a word, or a refusal
 abbrev pub startedBy : ℕ → ℕ → Outcome → Started

@@ -10,4 +10,5 @@ pub use state::Retuned;
 pub use state::Started;
 pub use state::State;
 pub use state::is_kernel;
+pub use state::no_state;
 pub use state::start;

@@ -2,7 +2,7 @@
 use oscillator::Setting;
 use oscillator::WordAnswer;
 ghost use mathlib.Core.Path.{_≡_};
-ghost use Rattle.converter.specs.Start.{isKernel, isState, neededAt, refusedStart, started, retuned};
+ghost use Rattle.converter.specs.Start.{isKernel, isState, neededAt, noState, refusedStart, started, retuned};
 
 // `window` has the newest four samples, oldest first; `needed` more are taken before the next output; `register` is that output's position modulo 2^32.
 pub struct State {
@@ -54,17 +54,25 @@ fn needed_at(kernel: u8, phase: u32) -> u8
     needed as u8
 }
 
+// The state of no converter: every call refuses it.
+pub fn no_state() -> State
+    ensures { λ r. ⌜ r ≡ noState ⌝ }
+{
+    State {
+        kernel: 0,
+        needed: 0,
+        register: 0,
+        word: 0,
+        window: [0i16; 4],
+    }
+}
+
 fn refused_start(refusal: u8) -> Started
     ensures { λ r. ⌜ r ≡ refusedStart refusal ⌝ }
 {
+    let state = no_state();
     Started {
-        state: State {
-            kernel: 0,
-            needed: 0,
-            register: 0,
-            word: 0,
-            window: [0i16; 4],
-        },
+        state: state,
         refusal: refusal,
     }
 }

@@ -13,7 +13,7 @@ use lib.Seq.{drop-cons, set-at}
 use Rattle.integers.specs.Table.{both}
 use Rattle.frames.specs.declared.data.DataLine.{DataLine}
 use Rattle.frames.specs.Line.{allDigits, byteSum, Read, read, refused, refuseUnless, lineEnd, lineDigits}
-use Rattle.frames.specs.Frame.{Frame, sequenceOf, countOf, sampleAt, samplesOf, isLong, checks, frameOf, dataLine, dataAnswer}
+use Rattle.frames.specs.Frame.{Frame, sequenceOf, countOf, sampleAt, samplesOf, hasLength, checkHolds, frameOf, dataLine, dataAnswer}
 use Rattle.frames.proofs.Lines.{between-part}
 use Rattle.frames.proofs.Fronts.{refuses, passes, passed, Within, within-unless, within-then, front-within, line-read, refusalOf, was-read, refused-is, refusal-most}
 
@@ -23,16 +23,16 @@ abbrev pub Long : List ℕ → Type 0
 Long ds = (1 ≤ countOf ds) × (countOf ds ≤ 64) × (length ds ≡ 12 + countOf ds * 4)
 
 module _ (ds : List ℕ) where
-  is-long : isLong ds ≡ true → Long ds
-  unfolding isLong
+  is-long : hasLength ds ≡ true → Long ds
+  unfolding hasLength
   is-long e =
       let a = both (leb 12 (length ds) && leb 1 (countOf ds) && leb (countOf ds) 64) (eqb (length ds) (12 + countOf ds * 4)) e in
       let b = both (leb 12 (length ds) && leb 1 (countOf ds)) (leb (countOf ds) 64) (a .0) in
       let d = both (leb 12 (length ds)) (leb 1 (countOf ds)) (b .0) in
       (leb-true 1 (countOf ds) (d .1), leb-true (countOf ds) 64 (b .1), eqb-true (length ds) (12 + countOf ds * 4) (a .1))
 
-  long-is : Long ds → isLong ds ≡ true
-  unfolding isLong
+  long-is : Long ds → hasLength ds ≡ true
+  unfolding hasLength
   long-is h = rw (le-leb 12 (length ds) (omega arith), le-leb 1 (countOf ds) (h .0), le-leb (countOf ds) 64 (h .1), eq-eqb (length ds) (12 + countOf ds * 4) (h .2))
 
   abbrev fields : Frame
@@ -43,21 +43,21 @@ module _ (ds : List ℕ) where
     fitted = refuseUnless (leb (countOf ds) space) 11 (read fields)
 
     abbrev checked : Read Frame
-    checked = refuseUnless (checks ds) 10 fitted
+    checked = refuseUnless (checkHolds ds) 10 fitted
 
     pub frame-9 : (Long ds → ⊥) → frameOf space ds ≡ refused 9
     unfolding frameOf
-    frame-9 n = refuses (isLong ds) 9 checked (λ e. n (is-long e))
+    frame-9 n = refuses (hasLength ds) 9 checked (λ e. n (is-long e))
 
     module _ (h : Long ds) where
       pub frame-10 : (byteSum ds % 256 ≡ 0 → ⊥) → frameOf space ds ≡ refused 10
-      unfolding frameOf checks
-      frame-10 n = passes (isLong ds) 9 checked (long-is h) ∙ refuses (checks ds) 10 fitted (λ e. n (eqb-true (byteSum ds % 256) 0 e))
+      unfolding frameOf checkHolds
+      frame-10 n = passes (hasLength ds) 9 checked (long-is h) ∙ refuses (checkHolds ds) 10 fitted (λ e. n (eqb-true (byteSum ds % 256) 0 e))
 
       module _ (s : byteSum ds % 256 ≡ 0) where
         fits : frameOf space ds ≡ fitted
-        unfolding frameOf checks
-        fits = passes (isLong ds) 9 checked (long-is h) ∙ passes (checks ds) 10 fitted (eq-eqb (byteSum ds % 256) 0 s)
+        unfolding frameOf checkHolds
+        fits = passes (hasLength ds) 9 checked (long-is h) ∙ passes (checkHolds ds) 10 fitted (eq-eqb (byteSum ds % 256) 0 s)
 
         pub frame-11 : space < countOf ds → frameOf space ds ≡ refused 11
         frame-11 l = fits ∙ refuses (leb (countOf ds) space) 11 (read fields) (λ e. omega (arith, leb-true (countOf ds) space e))
@@ -68,16 +68,16 @@ module _ (ds : List ℕ) where
     read-frame : (f : Frame) → frameOf space ds ≡ read f → Long ds × (countOf ds ≤ space) × (fields ≡ f)
     unfolding frameOf
     read-frame f e =
-        let a = passed (isLong ds) 9 checked f e in
-        let b = passed (checks ds) 10 fitted f (a .1) in
+        let a = passed (hasLength ds) 9 checked f e in
+        let b = passed (checkHolds ds) 10 fitted f (a .1) in
         let d = passed (leb (countOf ds) space) 11 (read fields) f (b .1) in
         (is-long (a .0), leb-true (countOf ds) space (d .0), (cc))
 
     frame-within : Within 6 11 (frameOf space ds)
     unfolding frameOf
     frame-within =
-        within-unless 6 11 (isLong ds) 9 checked (omega arith) (omega arith)
-        (within-unless 6 11 (checks ds) 10 fitted (omega arith) (omega arith) (within-unless 6 11 (leb (countOf ds) space) 11 (read fields) (omega arith) (omega arith) tt))
+        within-unless 6 11 (hasLength ds) 9 checked (omega arith) (omega arith)
+        (within-unless 6 11 (checkHolds ds) 10 fitted (omega arith) (omega arith) (within-unless 6 11 (leb (countOf ds) space) 11 (read fields) (omega arith) (omega arith) tt))
 
 -- ---- the samples
 pub samples-length : (n : ℕ) (ds : List ℕ) → length (samplesOf n ds) ≡ n

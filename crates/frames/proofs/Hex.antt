@@ -13,7 +13,7 @@ use lib.Dec.{ltb}
 use lib.ListN.{length, take, drop, getD, length-drop}
 use lib.Seq.{drop-cons}
 use Rattle.integers.specs.Table.{both}
-use Rattle.frames.specs.Line.{digitValue, allDigits, numberAfter, byteSum}
+use Rattle.frames.specs.Line.{digitValue, digitOf, allDigits, numberAfter, byteSum}
 
 -- ---- the value by the byte
 module _ (b : ℕ) where
@@ -118,3 +118,12 @@ power-small i h = pow-le-pow-right {n = 16} (zero-lt-suc 15) h
 
 pub digit-more : (i n d : ℕ) → n < 16 ^ i → d < 16 → n * 16 + d < 16 ^ (i + 1)
 digit-more i n d h l = rw (add-one, pow-succ') (omega arith)
+
+-- ---- a digit that is written is read as what it was
+pub digit-read : (d : ℕ) → d < 16 → digitValue (digitOf d) ≡ d
+unfolding digitOf
+digit-read d h =
+    elim (decLt d 10) [
+      | yes l ↦ rw (lt-ltb d 10 l) (value-low (48 + d) (omega arith) (omega arith) ∙ omega arith)
+      | no l ↦ rw (le-ltb d 10 (omega arith)) (value-high (55 + d) (omega arith) (omega arith) ∙ omega arith)
+    ]

@@ -3,3 +3,4 @@ pub mod Lines
 pub mod Fronts
 pub mod Frames
 pub mod Starts
+pub mod Examples

@@ -32,17 +32,17 @@ samplesOf zero ds = []
 samplesOf (suc n) ds = samplesOf n ds ++ (sampleAt ds n ∷ [])
 
 -- refusal 9 otherwise: "D: under 12, count 0 or above 64, or not 12 + 4 times count"
-unfoldable pub isLong : List ℕ → Bool
-isLong ds = leb 12 (length ds) && leb 1 (countOf ds) && leb (countOf ds) 64 && eqb (length ds) (12 + countOf ds * 4)
+unfoldable pub hasLength : List ℕ → Bool
+hasLength ds = leb 12 (length ds) && leb 1 (countOf ds) && leb (countOf ds) 64 && eqb (length ds) (12 + countOf ds * 4)
 
 -- refusal 10 otherwise: "these bytes, check included, sum to 0 modulo 256"
-unfoldable pub checks : List ℕ → Bool
-checks ds = eqb (byteSum ds % 256) 0
+unfoldable pub checkHolds : List ℕ → Bool
+checkHolds ds = eqb (byteSum ds % 256) 0
 
 -- of the digits, for a sample buffer with space for so many. Refusal 11: "sample buffer shorter than the count"
 unfoldable pub frameOf : ℕ → List ℕ → Read Frame
-frameOf space ds = refuseUnless (isLong ds) 9
-    (refuseUnless (checks ds) 10
+frameOf space ds = refuseUnless (hasLength ds) 9
+    (refuseUnless (checkHolds ds) 10
     (refuseUnless (leb (countOf ds) space) 11 (read (record { sequence = sequenceOf ds; samples = samplesOf (countOf ds) ds }))))
 
 -- of the line that bs begins with: 6, 7, 8, then 9, 10, 11. Byte 68 is `D`

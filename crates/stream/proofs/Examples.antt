@@ -10,7 +10,7 @@ use Rattle.converter.specs.Start.{isKernel, lastRead}
 use Rattle.converter.specs.Paper.{countIn, count}
 use Rattle.converter.specs.Demand.{clipsAt}
 use Rattle.frames.specs.Line.{before10, lineEnd, hasEnd, digitValue, allDigits, numberAfter, byteSum, digitOf, digitsOf, afterLetter, lineDigits}
-use Rattle.frames.specs.Frame.{samplesOf, isLong, checks, frameOf, dataLine}
+use Rattle.frames.specs.Frame.{samplesOf, hasLength, checkHolds, frameOf, dataLine}
 use Rattle.frames.specs.Start.{startOf, startLine}
 use Rattle.stream.specs.Program.{outputLine, outputLines, endLine, refusalLine, receivedIn, received, converts, program}
 
@@ -35,5 +35,5 @@ too-few = refl
 -- `0000`, `0032`, `0064`, `0046` and `E00000000000000040000000000000000`, a line each
 pub half-word : program (start 15 ++ frame) ≡ zeros 4 ++
     (10 ∷ 48 ∷ 48 ∷ 51 ∷ 50 ∷ 10 ∷ 48 ∷ 48 ∷ 54 ∷ 52 ∷ 10 ∷ 48 ∷ 48 ∷ 52 ∷ 54 ∷ 10 ∷ 69 ∷ (zeros 15 ++ (52 ∷ (zeros 16 ++ (10 ∷ [])))))
-unfolding before10 lineEnd hasEnd digitValue allDigits numberAfter byteSum digitOf digitsOf afterLetter lineDigits startOf startLine isKernel isWord samplesOf isLong checks frameOf dataLine kernelOf basepoint fraction fourteenBits column polynomial numerator unit nearestWhole rounded held output outside clips joinedAt filterFraction value valueClips lastRead countIn count clipsAt outputLine outputLines endLine refusalLine receivedIn received converts program
+unfolding before10 lineEnd hasEnd digitValue allDigits numberAfter byteSum digitOf digitsOf afterLetter lineDigits startOf startLine isKernel isWord samplesOf hasLength checkHolds frameOf dataLine kernelOf basepoint fraction fourteenBits column polynomial numerator unit nearestWhole rounded held output outside clips joinedAt filterFraction value valueClips lastRead countIn count clipsAt outputLine outputLines endLine refusalLine receivedIn received converts program
 half-word = refl

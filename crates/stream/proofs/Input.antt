@@ -11,7 +11,7 @@ use lib.Seq.{take-append-le, drop-append-le}
 use Rattle.oscillator.specs.Word.{isWord}
 use Rattle.converter.specs.Start.{isKernel}
 use Rattle.frames.specs.Line.{before10, lineEnd, hasEnd, allDigits, Read, read, refused, refuseUnless, andThen, afterLetter, lineDigits, rest}
-use Rattle.frames.specs.Frame.{Frame, countOf, isLong, checks, frameOf, dataLine}
+use Rattle.frames.specs.Frame.{Frame, countOf, hasLength, checkHolds, frameOf, dataLine}
 use Rattle.frames.specs.Start.{startOf, startLine}
 use Rattle.stream.specs.Program.{joining, receivedBy, receivedIn, received}
 
@@ -107,7 +107,7 @@ lines-of letter f h = record {
 
 pub data-lines : (space : ℕ) → Lines (dataLine space)
 unfolding dataLine frameOf
-data-lines space = lines-of 68 (frameOf space) (λ ds. other-unless (isLong ds) (omega arith) (other-unless (checks ds) (omega arith) (other-unless (leb (countOf ds) space) (omega arith) other-read)))
+data-lines space = lines-of 68 (frameOf space) (λ ds. other-unless (hasLength ds) (omega arith) (other-unless (checkHolds ds) (omega arith) (other-unless (leb (countOf ds) space) (omega arith) other-read)))
 
 pub start-lines : Lines startLine
 unfolding startLine startOf
