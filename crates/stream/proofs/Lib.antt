@@ -4,6 +4,7 @@ pub mod Outputs
 pub mod Steps
 pub mod Whole
 pub mod Progress
+pub mod Blocks
 pub mod Turning
 pub mod Sizes
 pub mod Moving

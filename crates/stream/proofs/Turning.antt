@@ -2,7 +2,7 @@
 use mathlib.Core.Path.{_≡_, refl, sym, ap, _∙_}
 use mathlib.Core.Bool.{Bool, true, false, not, _&&_, and-false}
 use mathlib.Core.Logic.{_⊎_, inl, inr, ⊎-elim}
-use mathlib.Core.List.{List, _++_, append-assoc}
+use mathlib.Core.List.{List, [], _++_}
 use Prim.Native.Nat.{ℕ, suc, _+_, _*_, _≤_, _<_, min}
 use native.Mathlib.Omega.{arith}
 use borrow.Author.Tests.{eq-eqb, ne-eqb, leb-true, leb-false, lt-ltb, le-ltb}
@@ -13,7 +13,7 @@ use lib.Seq.{take-at}
 use Rattle.converter.specs.declared.state.State.{State}
 use Rattle.converter.specs.declared.feeding.Fed.{Fed}
 use Rattle.converter.specs.Start.{isState}
-use Rattle.converter.specs.Feeding.{Answer, answerOf, fedOf, outputsOf, over, FedRight}
+use Rattle.converter.specs.Feeding.{Answer, answerOf, fedOf, outputsOf, over}
 use Rattle.converter.proofs.Feeds.{fed-rule, fed-refused, fed-sizes}
 use Rattle.frames.specs.declared.data.DataLine.{DataLine}
 use Rattle.frames.specs.declared.start.StartLine.{StartLine}
@@ -24,7 +24,7 @@ use Rattle.stream.specs.declared.turn.Stream.{Stream}
 use Rattle.stream.specs.declared.turn.Turn.{Turn}
 use Rattle.stream.specs.declared.turn.Next.the-variants as next
 use Rattle.stream.specs.Program.{outputLines, endLine, refusalLine}
-use Rattle.stream.specs.Turn.{asks, ends, refuses, startTurn, fedTurn, feedTurn, dataTurn, spaceIn, turnOf, turnAnswer, Wrote}
+use Rattle.stream.specs.Turn.{asks, ends, refuses, startTurn, fedTurn, feedTurn, dataTurn, spaceIn, turnOf, turnAnswer, Wrote, FedText}
 use Rattle.frames.proofs.Frames.{taken}
 use Rattle.frames.proofs.Starts.{start-taken}
 use Rattle.stream.proofs.Lines.{outputs-length, refusal-length}
@@ -108,44 +108,43 @@ skipped-by n xs false e =
 pub skipped : (n : ℕ) (xs : List ℤ) → drop (min n (length xs)) xs ≡ drop n xs
 skipped n xs = skipped-by n xs (leb n (length xs)) refl
 
-refusal-by : (s : State) (xs : List ℤ) (n : ℕ) (b : Bool) → isState s ≡ b → fedOf s xs n .refusal ≤ 5
-refusal-by s xs n true e = rw (fed-rule s e xs n .0) (omega arith)
-refusal-by s xs n false e = rw (fed-refused s e xs n .0) (omega arith)
+refusal-by : (s : State) (xs : List ℤ) (n : ℕ) (b : Bool) → isState s ≡ b → (fedOf s xs n .refusal ≤ 5) × ((fedOf s xs n .refusal ≡ 0 → ⊥) → outputsOf s xs n ≡ [])
+refusal-by s xs n true e = rw (fed-rule s e xs n .0) (omega arith, λ h. absurd (h refl))
+refusal-by s xs n false e = rw (fed-refused s e xs n .0) (omega arith, λ h. fed-refused s e xs n .1)
 
-module _ (s : Stream) (xs : List ℤ) (text : List ℕ) {old out : List ℤ} {f : Fed} (right : FedRight (s .state) xs old f out) (room : length old ≡ spaceIn (length text)) where
+module _ (s : Stream) (xs : List ℤ) (old : List ℕ) {f : Fed} {text : List ℕ} (right : FedText (s .state) xs (spaceIn (length old)) old f text) where
   abbrev answer : Answer
-  answer = fedOf (s .state) xs (spaceIn (length text))
+  answer = fedOf (s .state) xs (spaceIn (length old))
 
   abbrev ys : List ℤ
-  ys = outputsOf (s .state) xs (spaceIn (length text))
-
-  fed-answered : answerOf f ≡ answer
-  fed-answered = right .answer ∙ ap (fedOf (s .state) xs) room
+  ys = outputsOf (s .state) xs (spaceIn (length old))
 
   same : f .refusal ≡ answer .refusal
-  same = ap (λ (a : Answer). a .refusal) fed-answered
+  same = ap (λ (a : Answer). a .refusal) (right .answer)
 
-  pub fed-refusal : f .refusal ≤ 5
-  fed-refusal = rw same (refusal-by (s .state) xs (spaceIn (length text)) (isState (s .state)) refl)
+  written : f .written ≡ length ys
+  written = ap (λ (a : Answer). a .written) (right .answer) ∙ fed-sizes (s .state) xs (spaceIn (length old)) .0
 
-  pub fed-written : (f .written ≡ length ys) × (length ys ≤ spaceIn (length text))
-  fed-written = let z = fed-sizes (s .state) xs (spaceIn (length text)) in (ap (λ (a : Answer). a .written) fed-answered ∙ z .0, z .2)
-
-  pub fed-taken : f .taken ≤ length xs
-  fed-taken = rw (ap (λ (a : Answer). a .taken) fed-answered) (fed-sizes (s .state) xs (spaceIn (length text)) .1)
-
-  -- the outputs that are written, at the front of a block
-  pub fed-outputs : (rest : List ℤ) → take (f .written) (out ++ rest) ≡ ys
-  fed-outputs rest =
-      let b : out ≡ over ys old = right .buffer ∙ ap (λ n. over (outputsOf (s .state) xs n) old) room in
-      rw (b, append-assoc) (take-at ys (drop (length ys) old ++ rest) (f .written) (sym (fed-written .0)))
+  pub feed-sizes : (f .refusal ≤ 5) × (f .taken ≤ length xs) × (f .written ≤ spaceIn (length old))
+  feed-sizes =
+      let z = fed-sizes (s .state) xs (spaceIn (length old)) in
+      let r = refusal-by (s .state) xs (spaceIn (length old)) (isState (s .state)) refl in
+      (omega (arith, same, r .0), omega (arith, z .1, ap (λ (a : Answer). a .taken) (right .answer)), omega (arith, written, z .2))
 
   pub feed-refuses : (size : ℕ) {left : List ℕ} → (f .refusal ≡ 0 → ⊥) → left ≡ refusalLine (f .refusal) ++ drop 4 text
-      → Wrote (feedTurn s size answer ys) text (record { stream = s; used = 0; written = 4; next = next.Done }) left
-  feed-refuses size bad e = rw (ne-eqb (answer .refusal) 0 (λ z. bad (same ∙ z)), ← same) (wrote-last (refusalLine (f .refusal)) 4 (refusal-length (f .refusal)) e)
+      → Wrote (feedTurn s size answer ys) old (record { stream = s; used = 0; written = 4; next = next.Done }) left
+  unfolding outputLines
+  feed-refuses size bad e =
+      let none = refusal-by (s .state) xs (spaceIn (length old)) (isState (s .state)) refl .1 (λ z. bad (same ∙ z)) in
+      let kept : text ≡ old = right .text ∙ (λ i. outputLines (none i) ++ drop ((written ∙ ap length none) i * 5) old) in
+      rw (ne-eqb (answer .refusal) 0 (λ z. bad (same ∙ z)), ← same)
+      (wrote-last (refusalLine (f .refusal)) 4 (refusal-length (f .refusal)) (e ∙ ap (λ t. refusalLine (f .refusal) ++ drop 4 t) kept))
 
-  pub feed-goes : (size : ℕ) {left : List ℕ} {t : Turn} → f .refusal ≡ 0 → left ≡ outputLines ys ++ drop (length ys * 5) text
-      → ((zs : List ℤ) → length zs ≡ f .written → t ≡ turnAnswer (fedTurn s size (answerOf f) zs)) → Wrote (feedTurn s size answer ys) text t left
-  feed-goes size z e h =
+  pub feed-goes : (size : ℕ) {t : Turn} → f .refusal ≡ 0 → ((zs : List ℤ) → length zs ≡ f .written → t ≡ turnAnswer (fedTurn s size (answerOf f) zs))
+      → Wrote (feedTurn s size answer ys) old t text
+  feed-goes size z h =
       rw (eq-eqb (answer .refusal) 0 (sym same ∙ z))
-      (record { answer = h ys (sym (fed-written .0)) ∙ ap (λ a. turnAnswer (fedTurn s size a ys)) fed-answered; buffer = e ∙ ap (λ n. outputLines ys ++ drop n text) (sym (outputs-length ys)) })
+      (record {
+        answer = h ys (sym written) ∙ ap (λ a. turnAnswer (fedTurn s size a ys)) (right .answer);
+        buffer = right .text ∙ ap (λ n. outputLines ys ++ drop n old) (ap (λ n. n * 5) written ∙ sym (outputs-length ys));
+      })

@@ -2,14 +2,15 @@
 use mathlib.Core.Path.{_≡_}
 use mathlib.Core.Bool.{Bool, cond, true, false, not, _&&_}
 use mathlib.Core.List.{List, [], _∷_, _++_}
-use Prim.Native.Nat.{ℕ, _+_, _/_, _%_, _^_, min}
+use Prim.Native.Nat.{ℕ, _+_, _*_, _/_, _%_, _^_}
 use lib.Dec.{ltb, eqb}
 use lib.IntN.{ℤ}
 use lib.ListN.{length, drop}
 use Rattle.oscillator.specs.declared.settings.Setting.the-variants as setting
 use Rattle.converter.specs.declared.state.State.{State}
+use Rattle.converter.specs.declared.feeding.Fed.{Fed}
 use Rattle.converter.specs.Start.{silence, started}
-use Rattle.converter.specs.Feeding.{HUNGRY, Answer, fedOf, outputsOf}
+use Rattle.converter.specs.Feeding.{HUNGRY, Answer, answerOf, fedOf, outputsOf}
 use Rattle.frames.specs.Line.{Read, read, refused, used}
 use Rattle.frames.specs.Frame.{Frame, dataLine}
 use Rattle.frames.specs.Start.{Start, startLine}
@@ -71,12 +72,9 @@ fedTurn s size a ys = record {
 abbrev pub feedTurn : Stream → ℕ → Answer → List ℤ → Went
 feedTurn s size a ys = cond (eqb (a .refusal) 0) (fedTurn s size a ys) (ends s (refusalLine (a .refusal)))
 
--- the most outputs of a turn, and the space that a turn feeds into, with room for so many bytes of text
-abbrev pub block : ℕ
-block = 512
-
+-- the outputs that so many bytes of text have room for
 abbrev pub spaceIn : ℕ → ℕ
-spaceIn room = min (room / 5) block
+spaceIn room = room / 5
 
 -- by the D line that the bytes begin with
 abbrev pub dataTurn : Stream → Read Frame → List ℕ → Bool → ℕ → Went
@@ -104,6 +102,16 @@ pub record Wrote (w : Went) (old : List ℕ) (t : Turn) (left : List ℕ) : Type
 -- What a turn owes that was lent the unread bytes bs and room for text.
 abbrev pub TurnRight : Stream → List ℕ → Bool → List ℕ → Turn → List ℕ → Type 0
 TurnRight s bs ended old t left = Wrote (turnOf s bs ended (length old)) old t left
+
+-- ---- a feed whose outputs go to text
+-- a feed with space for n outputs: its answer f, and the room for text, which held `old` and holds `left` when it returns
+pub record FedText (s : State) (xs : List ℤ) (n : ℕ) (old : List ℕ) (f : Fed) (left : List ℕ) : Type 0 where
+  pub answer : answerOf f ≡ fedOf s xs n
+  pub text : left ≡ outputLines (outputsOf s xs n) ++ drop (f .written * 5) old
+
+-- two feeds together, the second of which went on from the first
+abbrev pub goesOn : Answer → Answer → Answer
+goesOn a b = record { state = b .state; taken = a .taken + b .taken; written = a .written + b .written; clips = a .clips + b .clips; end = b .end; refusal = b .refusal }
 
 -- ---- the caller's buffer
 -- the bytes from place `from` on, moved to the front; those behind them stay

@@ -1,4 +1,5 @@
 // From frame lines to the lines of outputs, for input that comes in pieces of any length. The definitions that the contracts cite stand in specs/, with the statement about whole runs.
+mod feeding;
 mod text;
 mod turn;
 mod unread;

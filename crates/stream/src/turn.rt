@@ -1,6 +1,7 @@
 // One turn of the program: at most one line is read, and what it gives is written.
+use crate::feeding::feed_text;
+use crate::feeding::least;
 use crate::text::put_end;
-use crate::text::put_outputs;
 use crate::text::put_refusal;
 use converter::End;
 use converter::Fed;
@@ -8,7 +9,7 @@ use converter::State;
 use oscillator::Setting;
 ghost use mathlib.Core.Path.{_≡_};
 ghost use mathlib.Core.List.{List};
-ghost use Prim.Native.Nat.{_+_, _*_, _^_, _≤_, _<_, min};
+ghost use Prim.Native.Nat.{_+_, _*_, _^_, _≤_, _<_};
 ghost use lib.IntN.{ℤ};
 ghost use lib.ListN.{length, drop};
 ghost use Rattle.converter.specs.Feeding.{answerOf, fedOf, outputsOf};
@@ -117,24 +118,11 @@ fn start_turn(s: Stream, bytes: &[u8], ended: bool, text: &mut [u8]) -> Turn
     }
 }
 
-// Space for the outputs of a turn.
-fn outputs_block() -> [i16; 512]
-    ensures { λ r. ⌜ 512 ≡ length r ⌝ }
-{
-    [0i16; 512]
-}
-
 // Space for the samples of a line.
 fn samples_block() -> [i16; 64]
     ensures { λ r. ⌜ 64 ≡ length r ⌝ }
 {
     [0i16; 64]
-}
-
-fn least(a: usize, b: usize) -> usize
-    ensures { λ r. ⌜ r ≡ min a b ⌝ }
-{
-    if a < b { a } else { b }
 }
 
 // The turn of a feed that wrote its outputs as text.
@@ -174,9 +162,7 @@ fn feed_turn(s: Stream, size: usize, samples: &[i16], text: &mut [u8]) -> Turn
     ensures { λ r. ⌜ Wrote (feedTurn s size (fedOf (s .state) (drop (s .skip) (now (samples .entry))) (spaceIn (length (now (text .entry))))) (outputsOf (s .state) (drop (s .skip) (now (samples .entry))) (spaceIn (length (now (text .entry)))))) (now (text .entry)) r (now (text .exit)) ⌝ }
 {
     let skip = least(s.skip, samples.len());
-    let mut outputs = outputs_block();
-    let space = least(text.len() / 5, 512);
-    let fed = converter::feed(s.state, &samples[skip..], &mut outputs[..space]);
+    let fed = feed_text(s.state, &samples[skip..], text);
     if fed.refusal != 0 {
         put_refusal(fed.refusal, text);
         return Turn {
@@ -186,8 +172,6 @@ fn feed_turn(s: Stream, size: usize, samples: &[i16], text: &mut [u8]) -> Turn
             next: Next::Done,
         };
     }
-    let written = fed.written;
-    put_outputs(&outputs[..written], text);
     fed_turn(s, size, fed)
 }
 
