@@ -2,9 +2,9 @@
 use mathlib.Core.Path.{_≡_, refl}
 use mathlib.Core.List.{List, [], _∷_, _++_}
 use Prim.Native.Nat.{ℕ}
-use lib.IntN.{ℤ, pos, negsuc}
-use Rattle.frames.specs.Line.{Read, read, refused, rest, before10, lineEnd, hasEnd, digitValue, allDigits, numberAfter, byteSum, afterLetter, lineDigits}
-use Rattle.frames.specs.Frame.{Frame, samplesOf, hasLength, checkHolds, frameOf, dataLine, dataAnswer, filled}
+use lib.IntN.{pos, negsuc}
+use Rattle.frames.specs.Line.{read, refused, rest, before10, lineEnd, hasEnd, digitValue, allDigits, numberAfter, byteSum, afterLetter, lineDigits}
+use Rattle.frames.specs.Frame.{samplesOf, hasLength, checkHolds, frameOf, dataLine}
 
 -- `DFEDCBA980280007FFFD4` and byte 10, and then `D`
 abbrev line : List ℕ

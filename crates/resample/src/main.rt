@@ -45,7 +45,8 @@ fn write_text(p: Standing, text: &[u8]) -> Standing
     }
 }
 
-// Reads more input behind the unread bytes. A run whose input cannot be read stops, with no last line.
+// Reads more input behind the unread bytes, of which there are fewer than 270 when a turn asks for more, so that there is room. A run whose input cannot be read stops, with no
+// last line.
 fn read_more(p: Standing, bytes: &mut [u8]) -> Standing
     requires { ⌜ (length (now bytes) ≡ 65536) × (p .from ≤ p .to) × (p .to ≤ 65536) × (p .filled ≤ 65536) ⌝ }
     ensures { λ r. ⌜ (r .from ≤ r .to) × (r .to ≤ 65536) × (r .filled ≤ 65536) ⌝ }

@@ -20,7 +20,8 @@ use Rattle.converter.proofs.Turns.{rule-hungry, rule-ind}
 use Rattle.converter.proofs.Runs.{Ending, full, hungry, rule-ending, rule-sound, rule-more, ran, then}
 use Rattle.converter.proofs.Feeds.{fed-rule, fed-refused, fed-sizes, two-feeds}
 use Rattle.stream.specs.Program.{outputLines}
-use Rattle.stream.specs.Turn.{spaceIn, goesOn, FedText}
+use Rattle.stream.specs.Turn.{spaceIn}
+use Rattle.stream.specs.Block.{goesOn, FedText}
 use Rattle.stream.proofs.Lines.{Written, none-written, written-length, line-written, lent, lent-all, lent-length, returned, outputs-length, outputs-append}
 
 -- ---- clips are no more than outputs

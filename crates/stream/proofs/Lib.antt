@@ -3,9 +3,10 @@ pub mod Input
 pub mod Outputs
 pub mod Steps
 pub mod Whole
+pub mod OneRun
+pub mod Sizes
 pub mod Progress
 pub mod Blocks
 pub mod Turning
-pub mod Sizes
 pub mod Moving
 pub mod Examples

@@ -19,21 +19,22 @@ use Rattle.frames.specs.Start.{Start, startLine}
 use Rattle.stream.specs.declared.turn.Stream.{Stream}
 use Rattle.stream.specs.declared.turn.Next.{Next}
 use Rattle.stream.specs.declared.turn.Next.the-variants as next
-use Rattle.stream.specs.Turn.{Went, refuses, startTurn, fedTurn, feedTurn, spaceIn, dataTurn, turnOf}
+use Rattle.stream.specs.Turn.{Result, refuses, startTurn, afterFeed, feedTurn, spaceIn, dataTurn, turnOf}
 use Rattle.stream.specs.Whole.{Progress}
 use Rattle.stream.proofs.Input.{Lines, data-lines, start-lines, six-none}
 use Rattle.stream.proofs.Lines.{outputs-length}
 use Rattle.stream.proofs.Steps.{by-test}
+use Rattle.stream.proofs.Sizes.{turn-fits}
 
 -- what a turn owes that says what comes next
-abbrev Owes : List ℕ → Bool → ℕ → Went → Next → Type 0
+abbrev Owes : List ℕ → Bool → ℕ → Result → Next → Type 0
 Owes bs ended room w next.Again = 0 < w .used + length (w .text)
 Owes bs ended room w next.Read = (ended ≡ false) × (hasEnd bs ≡ false) × (length bs < 270)
 Owes bs ended room w next.Write = room < 34
 Owes bs ended room w next.Done = Unit {0}
 
 module _ (s : Stream) (bs : List ℕ) (ended : Bool) (room : ℕ) where
-  abbrev Pays : Went → Type 0
+  abbrev Pays : Result → Type 0
   Pays w = Owes bs ended room w (w .next)
 
   refuses-pays : {A : Type 0} {line : List ℕ → Read A} → Lines line → (n : ℕ) → line bs ≡ refused n → Pays (refuses s n (length bs) ended)
@@ -51,7 +52,7 @@ module _ (s : Stream) (bs : List ℕ) (ended : Bool) (room : ℕ) where
   start-pays (refused n) e = refuses-pays start-lines n e
 
   -- a feed uses the line up, or fills its space
-  ran-pays : (n k : ℕ) {xs : List ℤ} (r : Ran) → 1 ≤ n → Ending xs n r → Pays (fedTurn s (suc k) (accepted r) (r .outputs))
+  ran-pays : (n k : ℕ) {xs : List ℤ} (r : Ran) → 1 ≤ n → Ending xs n r → Pays (afterFeed s (suc k) (accepted r) (r .outputs))
   ran-pays n k r h (full a b l i) = omega (arith, outputs-length (r .outputs))
   ran-pays n k r h (hungry a b l i) = let e : cond (eqb (r .end) 0) (suc k) 0 ≡ suc k = ap (λ t. cond (eqb t 0) (suc k) 0) a in omega arith
 
@@ -73,6 +74,7 @@ module _ (s : Stream) (bs : List ℕ) (ended : Bool) (room : ℕ) where
 
 pub progress : Progress
 progress s bs ended room =
-    let w : Went = turnOf s bs ended room in
+    let w : Result = turnOf s bs ended room in
     let h = pays s bs ended room in
-    record { again = λ e. subst (Owes bs ended room w) e h; reads = λ e. subst (Owes bs ended room w) e h; writes = λ e. subst (Owes bs ended room w) e h }
+    let f = turn-fits s bs ended room in
+    record { again = λ e. subst (Owes bs ended room w) e h; reads = λ e. subst (Owes bs ended room w) e h; writes = λ e. subst (Owes bs ended room w) e h; used = f .used; written = f .written }

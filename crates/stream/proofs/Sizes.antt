@@ -1,8 +1,8 @@
 -- A turn uses no more bytes than it was lent, and writes no more than there is room for.
-use mathlib.Core.Path.{_≡_, refl, sym, ap, subst, _∙_}
+use mathlib.Core.Path.{_≡_, refl, _∙_}
 use mathlib.Core.Bool.{Bool, cond, true, false, not, _&&_}
-use mathlib.Core.List.{List, [], _∷_, _++_}
-use Prim.Native.Nat.{ℕ, zero, suc, _+_, _*_, _/_, _<_, _≤_}
+use mathlib.Core.List.{List, _∷_, _++_}
+use Prim.Native.Nat.{ℕ, _+_, _*_, _/_, _<_, _≤_}
 use native.Mathlib.Omega.{arith}
 use lib.Dec.{ltb, eqb}
 use lib.IntN.{ℤ}
@@ -10,30 +10,26 @@ use lib.ListN.{length, drop}
 use borrow.Author.Tests.{ltb-false}
 use Rattle.converter.specs.Feeding.{HUNGRY, Answer, fedOf, outputsOf}
 use Rattle.converter.proofs.Feeds.{fed-sizes}
-use Rattle.frames.specs.Line.{Read, read, refused, digitsOf}
+use Rattle.frames.specs.Line.{Read, read, refused}
 use Rattle.frames.specs.Frame.{Frame, dataLine}
 use Rattle.frames.specs.Start.{Start, startLine}
 use Rattle.frames.proofs.Frames.{framed}
 use Rattle.frames.proofs.Starts.{begun}
 use Rattle.stream.specs.declared.turn.Stream.{Stream}
-use Rattle.stream.specs.Program.{outputLine, outputLines, endLine, refusalLine}
+use Rattle.stream.specs.Program.{outputLines, endLine, refusalLine}
 use Rattle.stream.specs.declared.turn.Turn.{Turn}
-use Rattle.stream.specs.Turn.{TurnRight, Went, ends, refuses, startTurn, fedTurn, feedTurn, dataTurn, spaceIn, turnOf}
+use Rattle.stream.specs.Turn.{TurnRight, Result, ends, refuses, startTurn, dataTurn, spaceIn, turnOf}
 use Rattle.stream.proofs.Lines.{outputs-length, end-length, refusal-length}
+use Rattle.stream.proofs.Steps.{by-test}
 
 used-in : (t : Bool) {size n : ℕ} → size ≤ n → cond t size 0 ≤ n
 used-in true h = h
 used-in false h = omega arith
 
 -- a turn fits into so many bytes and so much room
-pub record Within (bytes room : ℕ) (w : Went) : Type 0 where
+pub record Within (bytes room : ℕ) (w : Result) : Type 0 where
   pub used : w .used ≤ bytes
   pub written : length (w .text) ≤ room
-
--- whichever way a test goes
-either : {bytes room : ℕ} (t : Bool) {a b : Went} → (t ≡ true → Within bytes room a) → (t ≡ false → Within bytes room b) → Within bytes room (cond t a b)
-either true f g = f refl
-either false f g = g refl
 
 module _ (s : Stream) (bs : List ℕ) (ended : Bool) (room : ℕ) (h : 34 ≤ room) where
   ends-in : (line : List ℕ) → length line ≤ 34 → Within (length bs) room (ends s line)
@@ -41,7 +37,7 @@ module _ (s : Stream) (bs : List ℕ) (ended : Bool) (room : ℕ) (h : 34 ≤ ro
 
   refuses-in : (n : ℕ) → Within (length bs) room (refuses s n (length bs) ended)
   unfolding refuses
-  refuses-in n = either (eqb n 6 && not ended && ltb (length bs) 270) (λ e. record { used = omega arith; written = omega arith })
+  refuses-in n = by-test (Within (length bs) room) (eqb n 6 && not ended && ltb (length bs) 270) (λ e. record { used = omega arith; written = omega arith })
       (λ e. ends-in (refusalLine n) (let z = refusal-length n in omega arith))
 
   start-in : (r : Read Start) → startLine bs ≡ r → Within (length bs) room (startTurn s r bs ended)
@@ -54,16 +50,16 @@ module _ (s : Stream) (bs : List ℕ) (ended : Bool) (room : ℕ) (h : 34 ≤ ro
       let a : Answer = fedOf (s .state) xs (spaceIn room) in
       let ys : List ℤ = outputsOf (s .state) xs (spaceIn room) in
       let size : length (outputLines ys) ≤ room = (let l = outputs-length ys in let n = fed-sizes (s .state) xs (spaceIn room) .2 in omega arith) in
-      either (eqb (a .refusal) 0) (λ t. record { used = used-in (eqb (a .end) HUNGRY) (framed 64 bs f e .whole); written = size })
+      by-test (Within (length bs) room) (eqb (a .refusal) 0) (λ t. record { used = used-in (eqb (a .end) HUNGRY) (framed 64 bs f e .whole); written = size })
       (λ t. ends-in (refusalLine (a .refusal)) (let z = refusal-length (a .refusal) in omega arith))
   data-in (refused n) e = refuses-in n
 
 pub turn-fits : (s : Stream) (bs : List ℕ) (ended : Bool) (room : ℕ) → Within (length bs) room (turnOf s bs ended room)
 unfolding turnOf
-turn-fits s bs ended room = either (ltb room 34) (λ e. record { used = omega arith; written = omega arith })
+turn-fits s bs ended room = by-test (Within (length bs) room) (ltb room 34) (λ e. record { used = omega arith; written = omega arith })
     (λ e. let h : 34 ≤ room = ltb-false room 34 e in
-    either (s .started)
-    (λ t. either (ended && eqb (length bs) 0) (λ z. ends-in s bs ended room h (endLine (s .outputs) (s .clips)) (let l = end-length (s .outputs) (s .clips) in omega arith))
+    by-test (Within (length bs) room) (s .started)
+    (λ t. by-test (Within (length bs) room) (ended && eqb (length bs) 0) (λ z. ends-in s bs ended room h (endLine (s .outputs) (s .clips)) (let l = end-length (s .outputs) (s .clips) in omega arith))
     (λ z. data-in s bs ended room h (dataLine 64 bs) refl))
     (λ t. start-in s bs ended room h (startLine bs) refl))
 

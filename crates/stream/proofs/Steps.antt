@@ -31,7 +31,7 @@ use Rattle.stream.specs.declared.turn.Stream.{Stream}
 use Rattle.stream.specs.declared.turn.Next.{Next}
 use Rattle.stream.specs.declared.turn.Next.the-variants as next
 use Rattle.stream.specs.Program.{outputLines, endLine, refusalLine, Received, received, positionsOver, lastLine, converts, programBy, program}
-use Rattle.stream.specs.Turn.{Went, asks, ends, refuses, startTurn, fedTurn, spaceIn, dataTurn, turnOf}
+use Rattle.stream.specs.Turn.{Result, asks, ends, refuses, startTurn, afterFeed, spaceIn, dataTurn, turnOf}
 use Rattle.frames.proofs.Starts.{begun}
 use Rattle.stream.proofs.Input.{past, past-more, Lines, data-lines, start-lines, ends-more, read-ends, read-more, refusal-above, refused-more, received-read, received-refused, received-none}
 use Rattle.stream.proofs.Outputs.{finishes, finishes-fed, finishes-end}
@@ -73,7 +73,7 @@ stands-more s u (beside p c) bs h = record { running = h .running; sync = h .syn
 
 -- ---- what a turn does
 -- whichever way a test goes
-pub by-test : (P : Went → Type 0) (t : Bool) {a b : Went} → (t ≡ true → P a) → (t ≡ false → P b) → P (cond t a b)
+pub by-test : (P : Result → Type 0) (t : Bool) {a b : Result} → (t ≡ true → P a) → (t ≡ false → P b) → P (cond t a b)
 by-test P true f g = f refl
 by-test P false f g = g refl
 
@@ -85,7 +85,7 @@ GoesOn next.Write = Unit {0}
 GoesOn next.Done = ⊥
 
 -- What is still written is the turn's text and then what is still written after it; and the text alone where the run is done. More bytes may follow those at hand, unless the input has ended.
-pub data Stepped (s : Stream) (u : List ℕ) (g : Stage) (ended : Bool) (w : Went) : Type 0 where
+pub data Stepped (s : Stream) (u : List ℕ) (g : Stage) (ended : Bool) (w : Result) : Type 0 where
   goes : (g′ : Stage) → Stands (w .stream) (drop (w .used) u) g′ → GoesOn (w .next)
       → ((more : List ℕ) → still s g (u ++ more) ≡ w .text ++ still (w .stream) g′ (drop (w .used) u ++ more)) → Stepped s u g ended w
   done : w .next ≡ next.Done → ((more : List ℕ) → (ended ≡ true → more ≡ []) → still s g (u ++ more) ≡ w .text) → Stepped s u g ended w
@@ -205,8 +205,8 @@ module _ (s : Stream) (u : List ℕ) (ended : Bool) where
         left zs more = outputLines (r .outputs) ++ finishes on (c + r .clips) (zs ++ later more .samples) (later more .refusal)
 
         -- the turn, where the run ended so
-        abbrev fed : ℕ → Went
-        fed end = fedTurn s (suc (lineEnd u)) (accepted (ran (r .state) (r .taken) (r .outputs) (r .clips) end)) (r .outputs)
+        abbrev fed : ℕ → Result
+        fed end = afterFeed s (suc (lineEnd u)) (accepted (ran (r .state) (r .taken) (r .outputs) (r .clips) end)) (r .outputs)
 
         fed-still : (more : List ℕ) → still s (beside p c) (u ++ more) ≡ left (drop (r .taken) xs) more
         fed-still more = read-still p c (s .skip) skipped more ∙ finishes-fed p xs r (y .sync .sound .above) z c (later more .samples) (later more .refusal)

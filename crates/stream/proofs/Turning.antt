@@ -17,14 +17,15 @@ use Rattle.converter.specs.Feeding.{Answer, answerOf, fedOf, outputsOf, over}
 use Rattle.converter.proofs.Feeds.{fed-rule, fed-refused, fed-sizes}
 use Rattle.frames.specs.declared.data.DataLine.{DataLine}
 use Rattle.frames.specs.declared.start.StartLine.{StartLine}
-use Rattle.frames.specs.Line.{Read, read, refused, lineEnd}
+use Rattle.frames.specs.Line.{Read, read, lineEnd}
 use Rattle.frames.specs.Frame.{Frame, dataLine, dataAnswer, filled, DataRight}
 use Rattle.frames.specs.Start.{Start, startLine, startAnswer}
 use Rattle.stream.specs.declared.turn.Stream.{Stream}
 use Rattle.stream.specs.declared.turn.Turn.{Turn}
 use Rattle.stream.specs.declared.turn.Next.the-variants as next
 use Rattle.stream.specs.Program.{outputLines, endLine, refusalLine}
-use Rattle.stream.specs.Turn.{asks, ends, refuses, startTurn, fedTurn, feedTurn, dataTurn, spaceIn, turnOf, turnAnswer, Wrote, FedText}
+use Rattle.stream.specs.Turn.{asks, ends, refuses, startTurn, afterFeed, feedTurn, dataTurn, spaceIn, turnOf, turnAnswer, Wrote}
+use Rattle.stream.specs.Block.{FedText}
 use Rattle.frames.proofs.Frames.{taken}
 use Rattle.frames.proofs.Starts.{start-taken}
 use Rattle.stream.proofs.Lines.{outputs-length, refusal-length}
@@ -140,11 +141,11 @@ module _ (s : Stream) (xs : List ℤ) (old : List ℕ) {f : Fed} {text : List �
       rw (ne-eqb (answer .refusal) 0 (λ z. bad (same ∙ z)), ← same)
       (wrote-last (refusalLine (f .refusal)) 4 (refusal-length (f .refusal)) (e ∙ ap (λ t. refusalLine (f .refusal) ++ drop 4 t) kept))
 
-  pub feed-goes : (size : ℕ) {t : Turn} → f .refusal ≡ 0 → ((zs : List ℤ) → length zs ≡ f .written → t ≡ turnAnswer (fedTurn s size (answerOf f) zs))
+  pub feed-goes : (size : ℕ) {t : Turn} → f .refusal ≡ 0 → ((zs : List ℤ) → length zs ≡ f .written → t ≡ turnAnswer (afterFeed s size (answerOf f) zs))
       → Wrote (feedTurn s size answer ys) old t text
   feed-goes size z h =
       rw (eq-eqb (answer .refusal) 0 (sym same ∙ z))
       (record {
-        answer = h ys (sym written) ∙ ap (λ a. turnAnswer (fedTurn s size a ys)) (right .answer);
+        answer = h ys (sym written) ∙ ap (λ a. turnAnswer (afterFeed s size a ys)) (right .answer);
         buffer = right .text ∙ ap (λ n. outputLines ys ++ drop n old) (ap (λ n. n * 5) written ∙ sym (outputs-length ys));
       })

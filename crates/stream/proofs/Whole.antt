@@ -8,12 +8,12 @@ use lib.Seq.{take-append-seam}
 use Rattle.stream.specs.declared.turn.Stream.{Stream}
 use Rattle.stream.specs.declared.turn.Turn.{Turn}
 use Rattle.stream.specs.declared.turn.Next.the-variants as next
-use Rattle.stream.specs.Turn.{Went, opened, turnOf, turnAnswer, Wrote}
+use Rattle.stream.specs.Turn.{Result, opened, turnOf, turnAnswer, Wrote}
 use Rattle.stream.specs.Whole.{Move, comes, turns, input, output, told, Seen, Done, Follows, Whole}
 use Rattle.stream.proofs.Steps.{Stage, before, still, Stands, stands-more, GoesOn, Stepped, goes, done, step}
 
 -- what a turn wrote
-text-is : {w : Went} {old left : List ℕ} {t : Turn} → Wrote w old t left → take (t .written) left ≡ w .text
+text-is : {w : Result} {old left : List ℕ} {t : Turn} → Wrote w old t left → take (t .written) left ≡ w .text
 text-is {w} {old} {left} {t} h = (λ i. take (h .answer i .written) (h .buffer i)) ∙ take-append-seam (w .text) (drop (length (w .text)) old)
 
 or-right : (a b : Bool) → b ≡ true → a || b ≡ true
@@ -45,7 +45,7 @@ runs (comes bs ∷ ms) s u g y h more z =
 runs (turns ended old t left ∷ ms) s u g y h more z =
     go (step s u ended (length old) g y) (λ g′ y′. runs ms (t .stream) (drop (t .used) u) g′ y′ (h .3) more (λ e. z (or-right ended (told ms) e)))
   where
-    w : Went
+    w : Result
     w = turnOf s u ended (length old)
 
     a : t ≡ turnAnswer w

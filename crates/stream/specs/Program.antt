@@ -23,7 +23,7 @@ unfoldable pub outputLines : List ℤ → List ℕ
 outputLines [] = []
 outputLines (y ∷ ys) = outputLine y ++ outputLines ys
 
--- "`E`, 16 digits of outputs, 16 digits of clips (both modulo 2^64)": sixteen digits are all that count. Byte 69 is `E`
+-- "`E`, 16 digits of outputs, 16 digits of clips (both modulo 2^64)". Byte 69 is `E`
 unfoldable pub endLine : ℕ → ℕ → List ℕ
 endLine outputs clips = 69 ∷ digitsOf 16 (outputs % 2 ^ 64) ++ digitsOf 16 (clips % 2 ^ 64) ++ (10 ∷ [])
 
@@ -41,12 +41,12 @@ pub record Received : Type 0 where
 abbrev pub joining : List ℤ → Received → Received
 joining xs r = record { samples = xs ++ r .samples; refusal = r .refusal }
 
--- by the line that comes first: it is refused, or another follows. The program's sample buffer holds the most that a line has, 64
+-- by the line that comes first: it is refused, or others follow
 abbrev pub receivedBy : Read Frame → Received → Received
 receivedBy (read f) follows = joining (f .samples) follows
 receivedBy (refused n) follows = record { samples = []; refusal = n }
 
--- "then D lines from standard input", at most f of them; there are no more lines than bytes (law `received-next`)
+-- "then D lines from standard input", at most f of them; there are no more lines than bytes (law `received-next`). The program's sample buffer holds 64, the most that a line has
 unfoldable pub receivedIn : ℕ → List ℕ → Received
 receivedIn zero bs = record { samples = []; refusal = 0 }
 receivedIn (suc f) [] = record { samples = []; refusal = 0 }
@@ -56,7 +56,7 @@ unfoldable pub received : List ℕ → Received
 received bs = receivedIn (length bs) bs
 
 -- ---- output
--- The outputs that the paper has over the samples xs: those before the first whose b + R is the number of samples or more, from the position q on, a word w apart.
+-- "Over n joined samples the paper has the outputs k = 0, 1, 2 and so on before the first whose b + R is n or more": where they stand, from the position q on, a word w apart
 abbrev pub positionsOver : Kernel → ℕ → ℕ → ℕ → List ℕ
 positionsOver κ w q n = first q w (count κ w q n)
 

@@ -1,16 +1,14 @@
 -- One turn of the program: what the library does with the bytes at hand. Definitions only. (`Whole.antt` says what turns come to: the program.)
 use mathlib.Core.Path.{_≡_}
 use mathlib.Core.Bool.{Bool, cond, true, false, not, _&&_}
-use mathlib.Core.List.{List, [], _∷_, _++_}
-use Prim.Native.Nat.{ℕ, _+_, _*_, _/_, _%_, _^_}
+use mathlib.Core.List.{List, []}
+use Prim.Native.Nat.{ℕ, _+_, _/_, _%_, _^_}
 use lib.Dec.{ltb, eqb}
 use lib.IntN.{ℤ}
 use lib.ListN.{length, drop}
 use Rattle.oscillator.specs.declared.settings.Setting.the-variants as setting
-use Rattle.converter.specs.declared.state.State.{State}
-use Rattle.converter.specs.declared.feeding.Fed.{Fed}
-use Rattle.converter.specs.Start.{silence, started}
-use Rattle.converter.specs.Feeding.{HUNGRY, Answer, answerOf, fedOf, outputsOf}
+use Rattle.converter.specs.Start.{noState, started}
+use Rattle.converter.specs.Feeding.{HUNGRY, Answer, fedOf, outputsOf, over}
 use Rattle.frames.specs.Line.{Read, read, refused, used}
 use Rattle.frames.specs.Frame.{Frame, dataLine}
 use Rattle.frames.specs.Start.{Start, startLine}
@@ -22,28 +20,28 @@ use Rattle.stream.specs.Program.{outputLines, endLine, refusalLine}
 
 -- the stream before the K line
 abbrev pub opened : Stream
-opened = record { state = record { kernel = 0; needed = 0; register = 0; word = 0; window = silence }; started = false; skip = 0; outputs = 0; clips = 0 }
+opened = record { state = noState; started = false; skip = 0; outputs = 0; clips = 0 }
 
 -- what a turn comes to: the stream after it, how many of the unread bytes it used, the text that it wrote, and what comes next
-pub record Went : Type 0 where
+pub record Result : Type 0 where
   pub stream : Stream
   pub used : ℕ
   pub text : List ℕ
   pub next : Next
 
 -- nothing is done, and the stream stays: the caller is asked to read or to write, or the run is done with a last line
-abbrev pub asks : Stream → Next → Went
+abbrev pub asks : Stream → Next → Result
 asks s n = record { stream = s; used = 0; text = []; next = n }
 
-abbrev pub ends : Stream → List ℕ → Went
+abbrev pub ends : Stream → List ℕ → Result
 ends s line = record { stream = s; used = 0; text = line; next = next.Done }
 
--- a line is refused, of so many bytes at hand, unless its byte 10 may be among bytes to come
-unfoldable pub refuses : Stream → ℕ → ℕ → Bool → Went
+-- refusal n of a line, of which `have` bytes are at hand: where it is 6 and the line may still end, more input is asked for instead
+unfoldable pub refuses : Stream → ℕ → ℕ → Bool → Result
 refuses s n have ended = cond (eqb n 6 && not ended && ltb have 270) (asks s next.Read) (ends s (refusalLine n))
 
 -- by the K line that the bytes begin with
-abbrev pub startTurn : Stream → Read Start → List ℕ → Bool → Went
+abbrev pub startTurn : Stream → Read Start → List ℕ → Bool → Result
 startTurn s (read k) bs ended = record {
   stream = record { state = started (k .kernel) (setting.Word (k .word)) (k .phase) .state; started = true; skip = 0; outputs = 0; clips = 0 };
   used = used (read k) bs;
@@ -54,8 +52,8 @@ startTurn s (refused n) bs ended = refuses s n (length bs) ended
 
 -- a feed of a D line's samples gave the answer a and the outputs ys, the line `size` bytes long: it is used up where the feed ends HUNGRY, and else the next turn skips its samples that are
 -- taken. Counts are modulo 2^64
-abbrev pub fedTurn : Stream → ℕ → Answer → List ℤ → Went
-fedTurn s size a ys = record {
+abbrev pub afterFeed : Stream → ℕ → Answer → List ℤ → Result
+afterFeed s size a ys = record {
   stream = record {
     state = a .state;
     started = true;
@@ -69,51 +67,41 @@ fedTurn s size a ys = record {
 }
 
 -- the same, or the refusal 5 of a state that no run reaches
-abbrev pub feedTurn : Stream → ℕ → Answer → List ℤ → Went
-feedTurn s size a ys = cond (eqb (a .refusal) 0) (fedTurn s size a ys) (ends s (refusalLine (a .refusal)))
+abbrev pub feedTurn : Stream → ℕ → Answer → List ℤ → Result
+feedTurn s size a ys = cond (eqb (a .refusal) 0) (afterFeed s size a ys) (ends s (refusalLine (a .refusal)))
 
 -- the outputs that so many bytes of text have room for
 abbrev pub spaceIn : ℕ → ℕ
 spaceIn room = room / 5
 
 -- by the D line that the bytes begin with
-abbrev pub dataTurn : Stream → Read Frame → List ℕ → Bool → ℕ → Went
+abbrev pub dataTurn : Stream → Read Frame → List ℕ → Bool → ℕ → Result
 dataTurn s (read f) bs ended room =
     let xs = drop (s .skip) (f .samples) in
     feedTurn s (used (read f) bs) (fedOf (s .state) xs (spaceIn room)) (outputsOf (s .state) xs (spaceIn room))
 dataTurn s (refused n) bs ended room = refuses s n (length bs) ended
 
 -- a turn over the unread bytes bs, where the input has ended or may go on, with room for so many bytes of text: 34, the longest of the other lines, are asked for first
-unfoldable pub turnOf : Stream → List ℕ → Bool → ℕ → Went
+unfoldable pub turnOf : Stream → List ℕ → Bool → ℕ → Result
 turnOf s bs ended room = cond (ltb room 34) (asks s next.Write)
     (cond (s .started)
     (cond (ended && eqb (length bs) 0) (ends s (endLine (s .outputs) (s .clips))) (dataTurn s (dataLine 64 bs) bs ended room))
     (startTurn s (startLine bs) bs ended))
 
 -- what the call returns
-abbrev pub turnAnswer : Went → Turn
+abbrev pub turnAnswer : Result → Turn
 turnAnswer w = record { stream = w .stream; used = w .used; written = length (w .text); next = w .next }
 
 -- a turn w, with room for text that held `old` and holds `left` when it returns: the answer, and the room, which keeps what is past the text
-pub record Wrote (w : Went) (old : List ℕ) (t : Turn) (left : List ℕ) : Type 0 where
+pub record Wrote (w : Result) (old : List ℕ) (t : Turn) (left : List ℕ) : Type 0 where
   pub answer : t ≡ turnAnswer w
-  pub buffer : left ≡ w .text ++ drop (length (w .text)) old
+  pub buffer : left ≡ over (w .text) old
 
 -- What a turn owes that was lent the unread bytes bs and room for text.
 abbrev pub TurnRight : Stream → List ℕ → Bool → List ℕ → Turn → List ℕ → Type 0
 TurnRight s bs ended old t left = Wrote (turnOf s bs ended (length old)) old t left
 
--- ---- a feed whose outputs go to text
--- a feed with space for n outputs: its answer f, and the room for text, which held `old` and holds `left` when it returns
-pub record FedText (s : State) (xs : List ℤ) (n : ℕ) (old : List ℕ) (f : Fed) (left : List ℕ) : Type 0 where
-  pub answer : answerOf f ≡ fedOf s xs n
-  pub text : left ≡ outputLines (outputsOf s xs n) ++ drop (f .written * 5) old
-
--- two feeds together, the second of which went on from the first
-abbrev pub goesOn : Answer → Answer → Answer
-goesOn a b = record { state = b .state; taken = a .taken + b .taken; written = a .written + b .written; clips = a .clips + b .clips; end = b .end; refusal = b .refusal }
-
 -- ---- the caller's buffer
 -- the bytes from place `from` on, moved to the front; those behind them stay
 abbrev pub movedToFront : ℕ → List ℕ → List ℕ
-movedToFront from old = drop from old ++ drop (length (drop from old)) old
+movedToFront from old = over (drop from old) old

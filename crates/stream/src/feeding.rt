@@ -7,7 +7,8 @@ ghost use mathlib.Core.Path.{_≡_};
 ghost use Prim.Native.Nat.{_+_, _^_, _<_, min};
 ghost use lib.ListN.{length};
 ghost use Rattle.converter.specs.Feeding.{answerOf};
-ghost use Rattle.stream.specs.Turn.{spaceIn, goesOn, FedText};
+ghost use Rattle.stream.specs.Turn.{spaceIn};
+ghost use Rattle.stream.specs.Block.{goesOn, FedText};
 
 // Space for the outputs of a block.
 fn outputs_block() -> [i16; 512]

@@ -17,7 +17,7 @@ ghost use Rattle.frames.specs.Line.{used};
 ghost use Rattle.frames.specs.Frame.{dataLine};
 ghost use Rattle.frames.specs.Start.{startLine};
 ghost use Rattle.stream.specs.Program.{endLine};
-ghost use Rattle.stream.specs.Turn.{opened, asks, ends, refuses, startTurn, fedTurn, feedTurn, dataTurn, turnAnswer, spaceIn, Wrote, TurnRight};
+ghost use Rattle.stream.specs.Turn.{opened, asks, ends, refuses, startTurn, afterFeed, feedTurn, dataTurn, turnAnswer, spaceIn, Wrote, TurnRight};
 
 // Where a run stands between two turns: the converter's state once the K line is read, how many samples of the D line at the front of the unread bytes are taken, and the counts
 // of the E line.
@@ -49,14 +49,9 @@ pub struct Turn {
 pub fn open() -> Stream
     ensures { λ r. ⌜ r ≡ opened ⌝ }
 {
+    let state = converter::no_state();
     Stream {
-        state: State {
-            kernel: 0,
-            needed: 0,
-            register: 0,
-            word: 0,
-            window: [0i16; 4],
-        },
+        state: state,
         started: false,
         skip: 0,
         outputs: 0,
@@ -128,7 +123,7 @@ fn samples_block() -> [i16; 64]
 // The turn of a feed that wrote its outputs as text.
 fn fed_turn(s: Stream, size: usize, fed: Fed) -> Turn
     requires { ⌜ (s .skip + fed .taken < 2 ^ 64) × (fed .written * 5 < 2 ^ 63) ⌝ }
-    ensures { λ r. ⌜ ((ys : List ℤ) → length ys ≡ fed .written → r ≡ turnAnswer (fedTurn s size (answerOf fed) ys)) ⌝ }
+    ensures { λ r. ⌜ ((ys : List ℤ) → length ys ≡ fed .written → r ≡ turnAnswer (afterFeed s size (answerOf fed) ys)) ⌝ }
 {
     let mut used = size;
     let mut skip: usize = 0;

@@ -8,7 +8,8 @@ use native.Mathlib.Omega.{arith}
 use lib.ListN.{length}
 use denote.Ref.{now}
 use Rattle.converter.specs.Feeding.{Answer, endNumber, answerOf}
-use Rattle.stream.specs.Turn.{spaceIn, goesOn}
+use Rattle.stream.specs.Turn.{spaceIn}
+use Rattle.stream.specs.Block.{goesOn}
 use Rattle.stream.proofs.Lines.{returned}
 use Rattle.stream.proofs.Blocks.{Going, going-begins, going-sizes, going-length, block-goes, block-last, block-less}
 use Rattle.stream.proofs.feeding.feed_text.Statement.{statement}

@@ -8,7 +8,8 @@ use lib.IntN.{ℤ}
 use lib.ListN.{length, drop, length-drop}
 use denote.Ref.{now}
 use Rattle.stream.specs.declared.turn.Stream.{Stream}
-use Rattle.stream.specs.Turn.{spaceIn, FedText}
+use Rattle.stream.specs.Turn.{spaceIn}
+use Rattle.stream.specs.Block.{FedText}
 use Rattle.stream.proofs.Lines.{lent-all}
 use Rattle.stream.proofs.Turning.{skipped, feed-sizes, feed-refuses, feed-goes}
 use Rattle.stream.proofs.turn.feed_turn.Statement.{statement}

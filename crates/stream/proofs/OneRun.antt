@@ -1,0 +1,39 @@
+-- `Whole` read off for one run: a piece of input and one turn. Such runs can be seen, whatever the piece and the room, and a statement that says less is refused here. Assumes nothing.
+use mathlib.Core.Path.{_≡_, refl, sym}
+use mathlib.Core.Bool.{Bool, true, false, true≢false}
+use mathlib.Core.List.{List, [], _∷_, _++_}
+use Prim.Native.Nat.{ℕ}
+use lib.ListN.{length, take}
+use Rattle.converter.specs.Feeding.{over}
+use Rattle.stream.specs.declared.turn.Stream.{Stream}
+use Rattle.stream.specs.declared.turn.Next.the-variants as next
+use Rattle.stream.specs.Program.{program}
+use Rattle.stream.specs.Turn.{Result, opened, turnOf, turnAnswer, TurnRight}
+use Rattle.stream.specs.Whole.{Move, comes, turns, input, output, told, Seen, Done}
+use Rattle.stream.proofs.Whole.{whole}
+
+-- every turn can be seen: there is an answer and a text that meet the contract of `make_turn`
+pub turn-seen : (s : Stream) (bs : List ℕ) (ended : Bool) (old : List ℕ)
+    → TurnRight s bs ended old (turnAnswer (turnOf s bs ended (length old))) (over (turnOf s bs ended (length old) .text) old)
+turn-seen s bs ended old = record { answer = refl; buffer = refl }
+
+module _ (bs old : List ℕ) where
+  abbrev turned : Result
+  turned = turnOf opened bs false (length old)
+
+  -- bytes come, and one turn is made
+  abbrev moves : List Move
+  moves = comes bs ∷ turns false old (turnAnswer turned) (over (turned .text) old) ∷ []
+
+  pub moves-seen : Seen opened [] moves
+  unfolding Seen input
+  moves-seen = (turn-seen opened bs false old, (λ e. refl), (λ e. refl), tt)
+
+  -- what it wrote is a front of what the program writes, whatever follows; and all of it where the turn says that the run is done
+  pub one-front : (more : List ℕ) → take (length (output moves)) (program (input moves ++ more)) ≡ output moves
+  unfolding told
+  one-front more = whole moves moves-seen .front more (λ e. absurd (true≢false (sym e)))
+
+  pub one-all : turned .next ≡ next.Done → (more : List ℕ) → program (input moves ++ more) ≡ output moves
+  unfolding told Done
+  one-all d more = whole moves moves-seen .all d more (λ e. absurd (true≢false (sym e)))
