@@ -47,7 +47,7 @@ module _ (ds : List ℕ) where
 
     pub frame-9 : (Long ds → ⊥) → frameOf space ds ≡ refused 9
     unfolding frameOf
-    frame-9 n = refuses (hasLength ds) 9 checked (λ e. n (is-long e))
+    frame-9 n = refuses (hasLength ds) 9 _ (λ e. n (is-long e))
 
     module _ (h : Long ds) where
       pub frame-10 : (byteSum ds % 256 ≡ 0 → ⊥) → frameOf space ds ≡ refused 10
