@@ -1,6 +1,6 @@
 -- A D line read by the definitions, by computation: what the program `resample` does not show of one (its sequence number, refusal 11, the second call).
 use mathlib.Core.Path.{_≡_, refl}
-use mathlib.Core.List.{List, [], _∷_, _++_}
+use mathlib.Core.List.{List, [], _∷_}
 use Prim.Native.Nat.{ℕ}
 use lib.IntN.{pos, negsuc}
 use Rattle.frames.specs.Line.{read, refused, rest, before10, lineEnd, hasEnd, digitValue, allDigits, numberAfter, byteSum, afterLetter, lineDigits}

@@ -141,9 +141,6 @@ taken d space bs e z =
     let t = was-read 6 11 (dataLine space bs) (omega arith) (data-within space bs) (sym (refusal-is (dataLine space bs) d e) ∙ z) in
     record { frame = t .0; is = t .1; count = ap (λ (d : DataLine). d .count) (e ∙ ap dataAnswer (t .1)); line = framed space bs (t .0) (t .1) }
 
-pub data-size : (space : ℕ) (bs : List ℕ) (f : Frame) → dataLine space bs ≡ read f → suc (lineEnd bs) ≡ 14 + length (f .samples) * 4
-data-size space bs f e = framed space bs f e .size
-
 pub data-refusal : (space : ℕ) (bs : List ℕ) (n : ℕ) → dataLine space bs ≡ refused n → (6 ≤ n) × (n ≤ 11)
 data-refusal space bs n e = subst (Within 6 11) e (data-within space bs)
 

@@ -94,9 +94,6 @@ start-taken bs s e z =
     let t = was-read 1 9 (startLine bs) (omega arith) (line-within bs) (sym (refusal-is (startLine bs) s e) ∙ z) in
     (t .0, t .1, begun bs (t .0) (t .1))
 
-pub start-size : (bs : List ℕ) (k : Start) → startLine bs ≡ read k → (suc (lineEnd bs) ≡ 20) × (20 ≤ length bs)
-start-size bs k e = let b = begun bs k e in (b .size, b .whole)
-
 pub start-refusal : (bs : List ℕ) (n : ℕ) → startLine bs ≡ refused n → (1 ≤ n) × (n ≤ 9)
 start-refusal bs n e = subst (Within 1 9) e (line-within bs)
 

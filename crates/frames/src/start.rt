@@ -4,7 +4,7 @@ use crate::line::read_front;
 use crate::line::tail;
 ghost use mathlib.Core.Path.{_≡_};
 ghost use mathlib.Core.Bool.{true};
-ghost use Prim.Native.Nat.{_+_, _≤_};
+ghost use Prim.Native.Nat.{_+_};
 ghost use Rattle.frames.specs.Line.{allDigits, rest, used};
 ghost use Rattle.frames.specs.Start.{startOf, startLine, startAnswer};
 

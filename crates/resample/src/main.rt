@@ -4,7 +4,7 @@ use libc::STDOUT_FILENO;
 use stream::Next;
 use stream::Stream;
 ghost use mathlib.Core.Path.{_≡_};
-ghost use Prim.Native.Nat.{_≤_};
+ghost use Prim.Native.Nat.{_-_, _≤_};
 ghost use lib.ListN.{length};
 
 // Where the program stands: the bytes from `from` to `to` are unread, and `filled` bytes of text wait to be written.
@@ -35,6 +35,7 @@ fn begin() -> Standing
 fn write_text(p: Standing, text: &[u8]) -> Standing
     requires { ⌜ (length (now text) ≡ 65536) × (p .from ≤ p .to) × (p .to ≤ 65536) × (p .filled ≤ 65536) ⌝ }
     ensures { λ r. ⌜ (r .from ≤ r .to) × (r .to ≤ 65536) × (r .filled ≤ 65536) ⌝ }
+    ensures { λ r. ⌜ (r .stream ≡ p .stream) × (r .from ≡ p .from) × (r .to ≡ p .to) × (r .ended ≡ p .ended) × (r .filled ≡ 0) ⌝ }
 {
     let filled = p.filled;
     let written = io::write_all(STDOUT_FILENO, &text[..filled]);
@@ -50,6 +51,7 @@ fn write_text(p: Standing, text: &[u8]) -> Standing
 fn read_more(p: Standing, bytes: &mut [u8]) -> Standing
     requires { ⌜ (length (now bytes) ≡ 65536) × (p .from ≤ p .to) × (p .to ≤ 65536) × (p .filled ≤ 65536) ⌝ }
     ensures { λ r. ⌜ (r .from ≤ r .to) × (r .to ≤ 65536) × (r .filled ≤ 65536) ⌝ }
+    ensures { λ r. ⌜ (r .stream ≡ p .stream) × (r .from ≡ 0) × (p .to - p .from ≤ r .to) × (r .filled ≡ p .filled) ⌝ }
 {
     let to = p.to;
     stream::to_front(&mut bytes[..to], p.from);
@@ -74,6 +76,9 @@ fn serve(p: Standing, next: Next, bytes: &mut [u8], text: &[u8]) -> Standing
         Next::Again => p,
         Next::Read => {
             let w = write_text(p, text);
+            if w.done {
+                return w;
+            }
             read_more(w, bytes)
         }
         Next::Write => write_text(p, text),

@@ -1,8 +1,8 @@
--- A turn uses no more bytes than it was lent, and writes no more than there is room for.
-use mathlib.Core.Path.{_≡_, refl, _∙_}
+-- A turn uses no more bytes than it was lent, and writes no more than there is room for. Assumes nothing.
+use mathlib.Core.Path.{_≡_, refl}
 use mathlib.Core.Bool.{Bool, cond, true, false, not, _&&_}
-use mathlib.Core.List.{List, _∷_, _++_}
-use Prim.Native.Nat.{ℕ, _+_, _*_, _/_, _<_, _≤_}
+use mathlib.Core.List.{List}
+use Prim.Native.Nat.{ℕ, _≤_}
 use native.Mathlib.Omega.{arith}
 use lib.Dec.{ltb, eqb}
 use lib.IntN.{ℤ}

@@ -1,5 +1,5 @@
+-- `resample::step` is safe. Assumes nothing.
 use borrow.Author.Needs.{needs}
-use Prim.Native.Nat.{_≤_}
 use Rattle.stream.proofs.Sizes.{turn-used, turn-written}
 use Rattle.resample.proofs.step.Statement.{statement}
 use Rattle.resample.proofs.step.Tie as tie
@@ -8,55 +8,42 @@ use Rattle.resample.proofs.step.Lts as lts
 use Rattle.resample.proofs.serve.Reads as serve-reads
 use Rattle.stream.proofs.make_turn.Reads as make-turn-reads
 
--- src/main.rt:95:42
 sub-make-turn : tie.Need-sub-make-turn
 sub-make-turn c = search needs
 
--- src/main.rt:95:42
 part-make-turn-start : tie.Need-part-make-turn-start
 part-make-turn-start c = search needs
 
--- src/main.rt:95:42
 part-make-turn-end : tie.Need-part-make-turn-end
 part-make-turn-end c = search needs
 
--- src/main.rt:95:69
 sub-make-turn-2 : tie.Need-sub-make-turn-2
 sub-make-turn-2 c = search needs
 
--- src/main.rt:95:69
 part-make-turn-start-2 : tie.Need-part-make-turn-start-2
 part-make-turn-start-2 c = search needs
 
--- src/main.rt:95:69
 part-make-turn-end-2 : tie.Need-part-make-turn-end-2
 part-make-turn-end-2 c = search needs
 
--- src/main.rt:95:9
 make-turn-requires : tie.Need-make-turn-requires
 make-turn-requires c κs = search needs
 
--- src/main.rt:99:15
 add-t13 : tie.Need-add-t13
 add-t13 c = let h = c .before .before .before .before .make-turn .ensures in let u = turn-used _ _ _ _ h in let w = turn-written _ _ _ _ h in search needs
 
--- src/main.rt:100:17
 add-t17 : tie.Need-add-t17
 add-t17 c = let h = c .before .before .before .before .before .make-turn .ensures in let u = turn-used _ _ _ _ h in let w = turn-written _ _ _ _ h in search needs
 
--- src/main.rt:104:5
 serve-requires : tie.Need-serve-requires
 serve-requires c κs = let h = c .before .before .before .before .before .before .before .make-turn .ensures in let u = turn-used _ _ _ _ h in let w = turn-written _ _ _ _ h in search needs
 
--- src/main.rt:87:1
 same-length : tie.Need-same-length
 same-length c = search needs
 
--- src/main.rt:87:1
 same-length-2 : tie.Need-same-length-2
 same-length-2 c = search needs
 
--- src/main.rt:87:1
 returns : tie.Need-returns
 returns c = search needs
 

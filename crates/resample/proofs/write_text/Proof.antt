@@ -1,3 +1,4 @@
+-- `resample::write_text` is safe. Assumes nothing.
 use borrow.Author.Needs.{needs}
 use mathlib.Core.Path.{sym}
 use native.Mathlib.Omega.{arith}
@@ -8,15 +9,12 @@ use Rattle.resample.proofs.write_text.Reads as reads
 use Rattle.resample.proofs.write_text.Lts as lts
 use Rattle.io.proofs.write_all.Reads as write-all-reads
 
--- src/main.rt:40:34
 slice-aggregate-write-all : tie.Need-slice-aggregate-write-all
 slice-aggregate-write-all c = sym (length-take-le _ _ (omega arith))
 
--- src/main.rt:40:5
 write-all-requires : tie.Need-write-all-requires
 write-all-requires c κs = search needs
 
--- src/main.rt:35:1
 returns : tie.Need-returns
 returns c = search needs
 

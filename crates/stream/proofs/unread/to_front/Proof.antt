@@ -1,6 +1,7 @@
+-- `stream::unread::to_front` meets its contract. Assumes nothing.
 use borrow.Author.Needs.{needs}
-use mathlib.Core.Path.{_≡_, subst, _∙_}
-use Prim.Native.Nat.{suc, _+_, _-_, _≤_, _<_}
+use mathlib.Core.Path.{_≡_, subst}
+use Prim.Native.Nat.{suc, _+_, _-_, _≤_}
 use native.Mathlib.Omega.{arith}
 use lib.ListN.{length}
 use Rattle.stream.proofs.Moving.{Moved, moved-none, moved-next, moved-all}
@@ -15,33 +16,26 @@ Inv-loop bytes₀ from i₀ bytes i = (from ≤ i) × Moved from bytes₀ bytes 
 abbrev μ-loop : tie.MeasureT-loop
 μ-loop bytes₀ from i₀ bytes i = length bytes₀ - i
 
--- src/unread.rt:10:5
 loop-holds : tie.Need-loop-holds Inv-loop μ-loop
 loop-holds c =
     let none : 0 ≡ c .args .from - c .args .from = omega arith in
     (omega arith, subst (Moved (c .args .from) (c .args .bytes .now) (c .args .bytes .now)) none (moved-none (c .args .from) (c .args .bytes .now)))
 
--- src/unread.rt:11:27
 slice-read-bytes : tie.Need-slice-read-bytes Inv-loop μ-loop
 slice-read-bytes c = search needs
 
--- src/unread.rt:11:15
 sub-bytes : tie.Need-sub-bytes Inv-loop μ-loop
 sub-bytes c = search needs
 
--- src/unread.rt:11:9
 slice-write-bytes : tie.Need-slice-write-bytes Inv-loop μ-loop
 slice-write-bytes c = search needs
 
--- src/unread.rt:12:9
 add-i : tie.Need-add-i Inv-loop μ-loop
 add-i c = search needs
 
--- src/unread.rt:10:5
 loop-less : tie.Need-loop-less Inv-loop μ-loop
 loop-less c = search needs
 
--- src/unread.rt:10:5
 loop-again : tie.Need-loop-again Inv-loop μ-loop
 loop-again c =
     let a = c .before .before .before .args in
@@ -51,11 +45,9 @@ loop-again c =
     let moved = moved-next (a .from) (l .i - a .from) (a .bytes .now) (l .bytes) (l .inv .1) (omega arith) in
     (omega arith, rw (← next) (rw i at moved))
 
--- src/unread.rt:6:1
 same-length : tie.Need-same-length Inv-loop μ-loop
 same-length c = c .before .loop .inv .1 .size
 
--- src/unread.rt:6:1
 returns : tie.Need-returns Inv-loop μ-loop
 returns c =
     let a = c .before .before .args in
