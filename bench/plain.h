@@ -1,4 +1,5 @@
-/* The converter in plain C, to compare speeds with: block feeding of 16-bit samples through one of four kernels. */
+/* The converter in plain C, to compare speeds with: block feeding of 16-bit samples through one of four kernels. For
+   little-endian machines. */
 #ifndef PLAIN_H
 #define PLAIN_H
 
@@ -28,5 +29,9 @@ struct plain_fed {
 /* Takes samples and writes outputs until either the samples or the space are spent. */
 struct plain_fed plain_feed(struct plain_state *state, const int16_t *input, size_t input_count,
                             int16_t *output, size_t output_count);
+
+/* The same over byte buffers, as `resampler_feed` of include/resampler.h. */
+uint32_t plain_host_feed(uint8_t *image, size_t image_length, const uint8_t *input, size_t input_length,
+                         uint8_t *output, size_t output_length);
 
 #endif

@@ -283,7 +283,7 @@ def files():
 
 def main(mode):
     made = files()
-    there = {p.name: p.read_bytes() for p in FOLDER.iterdir()} if FOLDER.exists() else {}
+    there = {p.name: p.read_bytes() for p in FOLDER.iterdir() if p.is_file()} if FOLDER.exists() else {}
     if mode == "--write":
         FOLDER.mkdir(exist_ok=True)
         for name in there.keys() - made.keys():

@@ -1,11 +1,13 @@
--- A pass over samples that lie in one list: how it begins, and how an output takes it on. The laws hold for every way g in which an output lies in a buffer. Assumes nothing.
+-- A pass over samples that lie in one list: how it begins, and how an output takes it on. The laws hold for every layout L of samples in a buffer. Assumes nothing.
 use mathlib.Core.Path.{_≡_, refl, sym, ap, subst, _∙_}
 use mathlib.Core.Bool.{Bool, true, false, cond}
-use mathlib.Core.List.{List, [], _∷_, _++_, append-nil, append-assoc}
-use Prim.Native.Nat.{ℕ, zero, suc, _+_, _-_, _^_, _≤_, _<_}
+use mathlib.Core.Logic.{_⊎_, ⊎-elim}
+use mathlib.Core.List.{List, [], _∷_, _++_, flatMap, append-nil, append-assoc}
+use Prim.Native.Nat.{ℕ, zero, suc, _+_, _-_, _*_, _^_, _≤_, _<_}
 use native.Mathlib.Omega.{arith}
-use native.Mathlib.Nat.{add-assoc, add-zero, zero-add}
-use native.Mathlib.Numerals.{add-one}
+use native.Mathlib.Nat.{add-assoc, add-zero, zero-add, zero-mul}
+use borrow.Author.Tests.{ltb-true, ltb-false}
+use lib.Dec.{ltb}
 use lib.IntN.{ℤ, pos}
 use lib.ListN.{length, getD, take, drop, set, length-set}
 use lib.Seq.{drop-cons, drop-drop, take-suc-set, drop-set-lt}
@@ -17,7 +19,7 @@ use Rattle.kernels.specs.Value.{outputOf, clipOf}
 use Rattle.converter.specs.declared.state.State.{State}
 use Rattle.converter.specs.declared.pass.Progress.{Progress}
 use Rattle.converter.specs.Feeding.{outputNext, clipNext, advanced, taking, Ran, wrote, took, rule}
-use Rattle.converter.specs.Pass.{windowFrom, gone, lastPlace, reached, laidBy, Laid, laid, following, onFrom, Passed, one, Passing, PassingAt}
+use Rattle.converter.specs.Pass.{windowFrom, gone, lastPlace, reached, Layout, asSamples, room, Laid, laid, following, onFrom, Passed, Passing, PassingAt, StretchRight}
 use Rattle.converter.proofs.Turns.{rule-write, rule-take}
 
 -- the window one sample on
@@ -41,17 +43,17 @@ module _ {A : Type 0} where
   following-both : (t u : ℕ) (ys zs : List A) (c d : ℕ) (r : Laid A) → following t ys c (following u zs d r) ≡ following (t + u) (ys ++ zs) (c + d) r
   following-both t u ys zs c d r = simp (add-assoc, append-assoc)
 
-module _ {A : Type 0} (g : ℤ → List A) where
-  laid-took : (r : Ran) → laid g (took r) ≡ following 1 [] 0 (laid g r)
+module _ {A : Type 0} (L : Layout A) where
+  laid-took : (r : Ran) → laid L (took r) ≡ following 1 [] 0 (laid L r)
   laid-took r = let e : suc (r .taken) ≡ 1 + r .taken = omega arith in simp (zero-add, e)
 
-  laid-wrote : (s : State) (r : Ran) → laid g (wrote s r) ≡ following 0 (g (outputNext s)) (clipNext s) (laid g r)
-  unfolding laidBy
+  laid-wrote : (s : State) (r : Ran) → laid L (wrote s r) ≡ following 0 (L .entries (outputNext s)) (clipNext s) (laid L r)
+  unfolding flatMap
   laid-wrote s r = simp zero-add
 
   module _ (more xs : List ℤ) (s : State) where
     abbrev from : ℕ → ℕ → ℕ → ℕ → Laid A
-    from n q b k = laid g (onFrom more xs n s q b k)
+    from n q b k = laid L (onFrom more xs n s q b k)
 
     -- ---- samples are taken
     module _ (n q : ℕ) where
@@ -63,10 +65,10 @@ module _ {A : Type 0} (g : ℤ → List A) where
           let x : ℤ = getD xs (b + 4) (pos 0) in
           let S : State = gone s q (suc k) (windowFrom xs b) in
           let rest : List ℤ = drop (suc (b + 4)) xs ++ more in
-          ap (λ l. laid g (rule (l ++ more) n S)) (drop-cons xs (b + 4) (pos 0) h)
-          ∙ ap (laid g) (rule-take x rest n k S refl)
+          ap (λ l. laid L (rule (l ++ more) n S)) (drop-cons xs (b + 4) (pos 0) h)
+          ∙ ap (laid L) (rule-take x rest n k S refl)
           ∙ laid-took (rule rest n (taking S x))
-          ∙ (λ i. following 1 [] 0 (laid g (rule (drop (e i) xs ++ more) n (gone s q (m i) (window-next xs b i)))))
+          ∙ (λ i. following 1 [] 0 (laid L (rule (drop (e i) xs ++ more) n (gone s q (m i) (window-next xs b i)))))
 
       take-many : (j b k : ℕ) → b + j + 4 ≤ length xs → from n q b (j + k) ≡ following j [] 0 (from n q (b + j) k)
       take-many zero b k h = (λ i. from n q (sym (add-zero b) i) (zero-add k i)) ∙ following-nothing (from n q (b + 0) k)
@@ -95,22 +97,22 @@ module _ {A : Type 0} (g : ℤ → List A) where
 
     -- ---- an output is written
     writes : (n q b : ℕ) (ys : List A) (c : ℕ) → let S : State = gone s q 0 (windowFrom xs b) in
-        following b ys c (from (suc n) q b 0) ≡ following b (ys ++ g (outputNext S)) (c + clipNext S) (from n (advanced S .register) b (advanced S .needed))
+        following b ys c (from (suc n) q b 0) ≡ following b (ys ++ L .entries (outputNext S)) (c + clipNext S) (from n (advanced S .register) b (advanced S .needed))
     unfolding advanced
     writes n q b ys c =
         let S : State = gone s q 0 (windowFrom xs b) in
         let rest : List ℤ = drop (b + 4) xs ++ more in
-        ap (λ r. following b ys c (laid g r)) (rule-write rest n S refl)
+        ap (λ r. following b ys c (laid L r)) (rule-write rest n S refl)
         ∙ ap (following b ys c) (laid-wrote S (rule rest n (advanced S)))
-        ∙ following-both b 0 ys (g (outputNext S)) c (clipNext S) (laid g (rule rest n (advanced S)))
-        ∙ (λ i. following (add-zero b i) (ys ++ g (outputNext S)) (c + clipNext S) (laid g (rule rest n (advanced S))))
+        ∙ following-both b 0 ys (L .entries (outputNext S)) c (clipNext S) (laid L (rule rest n (advanced S)))
+        ∙ (λ i. following (add-zero b i) (ys ++ L .entries (outputNext S)) (c + clipNext S) (laid L (rule rest n (advanced S))))
 
   -- ---- the pass
   module _ (s : State) (xs : List ℤ) (space : ℕ) (long : 4 ≤ length xs) where
-    pub pass-begins : s .needed ≤ 4 → Passed g s xs space [] (s .register) (s .needed) 0 0
+    pub pass-begins : s .needed ≤ 4 → Passed L s xs space [] (s .register) (s .needed) 0 0
     pass-begins h = record {
       near = omega arith;
-      room = omega arith;
+      fits = omega arith;
       few = omega arith;
       runs = λ more.
           let m : space ≡ space - 0 = omega arith in
@@ -120,19 +122,19 @@ module _ {A : Type 0} (g : ℤ → List A) where
           ∙ ap (λ n. following (reached xs (s .needed)) [] 0 (from more xs s n q (reached xs (s .needed)) (s .needed - lastPlace xs))) m;
     }
 
-    module _ {ys : List A} {q at written clips : ℕ} (p : Passed g s xs space ys q at written clips)
+    module _ {ys : List A} {q at written clips : ℕ} (p : Passed L s xs space ys q at written clips)
         (inside : at ≤ lastPlace xs) (left : written < space) (low : q < 2 ^ 32) (below : s .word ≤ 2 ^ 34) where
       abbrev S : State
       S = gone s q 0 (windowFrom xs at)
 
-      turn : Passed g s xs space (ys ++ g (outputNext S)) (advanced S .register) (at + advanced S .needed) (written + 1) (clips + clipNext S)
+      turn : Passed L s xs space (ys ++ L .entries (outputNext S)) (advanced S .register) (at + advanced S .needed) (written + 1) (clips + clipNext S)
       unfolding advanced
       turn =
           let k : ℕ = advanced S .needed in
           let k-le : k ≤ 4 = advance-le (kernelOf (s .kernel) .nearest) q (s .word) low below in
           record {
             near = omega arith;
-            room = omega arith;
+            fits = omega arith;
             few = omega (arith, clip-le (clipOf (kernelOf (s .kernel)) q (windowFrom xs at)));
             runs = λ more.
                 let n : ℕ = space - (written + 1) in
@@ -142,7 +144,7 @@ module _ {A : Type 0} (g : ℤ → List A) where
                 p .runs more
                 ∙ (λ i. following (f i) ys clips (from more xs s (e i) q (f i) (z i)))
                 ∙ writes more xs s n q at ys clips
-                ∙ takes more xs s n (advanced S .register) at k (at + k) (ys ++ g (outputNext S)) (clips + clipNext S) long inside refl;
+                ∙ takes more xs s n (advanced S .register) at k (at + k) (ys ++ L .entries (outputNext S)) (clips + clipNext S) long inside refl;
           }
 
       -- an output written, and samples taken up to the next one, by what the calls of a loop ensure
@@ -152,76 +154,130 @@ module _ {A : Type 0} (g : ℤ → List A) where
           → (v ≡ outputOf (kernelOf (s .kernel)) q window) × (clip ≡ clipOf (kernelOf (s .kernel)) q window)
           → q' ≡ stepped q (s .word)
           → k ≡ advanceOf nearest q q' (s .word)
-          → ys' ≡ ys ++ g v
-          → Passed g s xs space ys' q' (at + k) (written + 1) (clips + boolByte clip)
+          → ys' ≡ ys ++ L .entries v
+          → Passed L s xs space ys' q' (at + k) (written + 1) (clips + boolByte clip)
       unfolding advanced
       pass-turn {clip} en ew ev eq ek ey = rw (ey, byte-is clip, ev .0, ev .1, ew, ek, en, eq) turn
 
--- ---- over a buffer of samples
-module _ {s : State} {xs old : List ℤ} (four : 4 ≤ length xs) where
-  pub passing-begins : s .register < 2 ^ 32 → s .needed ≤ 4 → Passing s xs old old (s .register) (s .needed) 0 0
-  passing-begins l h = record { low = l; long = refl; kept = refl; passed = pass-begins one s xs (length old) four h }
+-- ---- over a buffer
+-- sample x stored at place i of a buffer, which held `left` and holds `left'`
+pub record Stored {A : Type 0} (L : Layout A) (left : List A) (i : ℕ) (x : ℤ) (left' : List A) : Type 0 where
+  pub long : length left' ≡ length left
+  pub front : take ((i + 1) * L .width) left' ≡ take (i * L .width) left ++ L .entries x
+  pub rest : drop ((i + 1) * L .width) left' ≡ drop ((i + 1) * L .width) left
 
-  -- z is the value as it is stored
-  pub passing-turn : {left : List ℤ} {q at written clips : ℕ} → Passing s xs old left q at written clips → at ≤ lastPlace xs → written < length left → s .word ≤ 2 ^ 34
-      → {nearest clip : Bool} {window : List ℤ} {v z : ℤ} {q' k : ℕ}
+-- over samples; z is the value as it is stored
+pub stored-one : (left : List ℤ) (i : ℕ) {v z : ℤ} → i < length left → z ≡ v → Stored asSamples left i v (set left i z)
+stored-one left i {v} {z} h e =
+    let m : (i + 1) * 1 ≡ suc i = omega arith in
+    let n : i * 1 ≡ i = omega arith in
+    record {
+      long = length-set left i z;
+      front = rw (m, n, ← e) (take-suc-set left i z h);
+      rest = drop-set-lt ((i + 1) * 1) left i z (omega arith);
+    }
+
+module _ {A : Type 0} {L : Layout A} {s : State} {xs : List ℤ} {old : List A} (four : 4 ≤ length xs) where
+  pub passing-begins : s .register < 2 ^ 32 → s .needed ≤ 4 → Passing L s xs old old (s .register) (s .needed) 0 0
+  passing-begins l h = record { low = l; long = refl; kept = refl; passed = rw (zero-mul (L .width)) (pass-begins L s xs (room L old) four h) }
+
+  pub passing-turn : {left left' : List A} {q at written clips : ℕ} → Passing L s xs old left q at written clips → at ≤ lastPlace xs → written < room L left → s .word ≤ 2 ^ 34
+      → {nearest clip : Bool} {window : List ℤ} {v : ℤ} {q' k : ℕ}
       → nearest ≡ kernelOf (s .kernel) .nearest
       → window ≡ windowFrom xs at
       → (v ≡ outputOf (kernelOf (s .kernel)) q window) × (clip ≡ clipOf (kernelOf (s .kernel)) q window)
-      → z ≡ v
+      → Stored L left written v left'
       → q' ≡ stepped q (s .word)
       → k ≡ advanceOf nearest q q' (s .word)
-      → Passing s xs old (set left written z) q' (at + k) (written + 1) (clips + boolByte clip)
-  passing-turn {left} {q} {written} p inside room below {v} {z} en ew ev ez eq ek =
-      let more : take (written + 1) (set left written z) ≡ take written left ++ one z = rw (add-one written) (take-suc-set left written z room) in
+      → Passing L s xs old left' q' (at + k) (written + 1) (clips + boolByte clip)
+  passing-turn {left} {left'} {q} {written} p inside space below en ew ev st eq ek =
+      let n : ℕ = written * L .width in
+      let e : (written + 1) * L .width ≡ n + L .width = omega arith in
+      let on : drop ((written + 1) * L .width) left ≡ drop ((written + 1) * L .width) old =
+      rw (e, ← drop-drop (L .width) n left, ← drop-drop (L .width) n old) (ap (drop (L .width)) (p .kept)) in
       record {
         low = rw eq (stepped-below q (s .word));
-        long = length-set left written z ∙ p .long;
-        kept = drop-set-lt (written + 1) left written z (omega arith) ∙ sym (drop-drop 1 written left) ∙ ap (drop 1) (p .kept) ∙ drop-drop 1 written old;
-        passed = pass-turn one s xs (length old) four (p .passed) inside (omega arith) (p .low) below en ew ev eq ek (more ∙ ap (λ x. take written left ++ one x) ez);
+        long = st .long ∙ p .long;
+        kept = st .rest ∙ on;
+        passed = pass-turn L s xs (room L old) four (p .passed) inside (rw (p .long) at space) (p .low) below en ew ev eq ek (st .front);
       }
 
 -- ---- a stretch of a pass: where it stands that began at p, over the buffer `mid`
-pub record Stretching (k w : ℕ) (xs mid : List ℤ) (p : Progress) (left : List ℤ) (q at written : ℕ) (held : Bool) : Type 0 where
+pub record Stretching {A : Type 0} (L : Layout A) (k w : ℕ) (xs : List ℤ) (mid : List A) (p : Progress) (left : List A) (q at written : ℕ) (held : Bool) : Type 0 where
   pub low : q < 2 ^ 32
   pub near : at ≤ length xs
   pub long : length left ≡ length mid
-  pub room : written ≤ length left
+  pub fits : written ≤ room L left
   pub more : p .written + boolByte held ≤ written
-  pub goes-on : (s : State) (old : List ℤ) → s .kernel ≡ k → s .word ≡ w → PassingAt s xs old p mid → Passing s xs old left q at written (p .clips + boolByte held)
+  pub goes-on : (s : State) (old : List A) → s .kernel ≡ k → s .word ≡ w → PassingAt L s xs old p mid → Passing L s xs old left q at written (p .clips + boolByte held)
 
-module _ {k w : ℕ} {xs mid : List ℤ} {p : Progress} where
-  pub stretching-begins : p .register < 2 ^ 32 → p .at ≤ length xs → p .written ≤ length mid → Stretching k w xs mid p mid (p .register) (p .at) (p .written) false
+module _ {A : Type 0} {L : Layout A} {k w : ℕ} {xs : List ℤ} {mid : List A} {p : Progress} where
+  pub stretching-begins : p .register < 2 ^ 32 → p .at ≤ length xs → p .written ≤ room L mid → Stretching L k w xs mid p mid (p .register) (p .at) (p .written) false
   stretching-begins l n r = record {
     low = l;
     near = n;
     long = refl;
-    room = r;
+    fits = r;
     more = omega arith;
-    goes-on = λ s old ek ew h. subst (Passing s xs old mid (p .register) (p .at) (p .written)) (sym (add-zero (p .clips))) h;
+    goes-on = λ s old ek ew h. subst (Passing L s xs old mid (p .register) (p .at) (p .written)) (sym (add-zero (p .clips))) h;
   }
 
-  -- an output written that may be held, after none that was; z is the value as it is stored
-  pub stretching-turn : 4 ≤ length xs → w ≤ 2 ^ 34 → {left : List ℤ} {q at written : ℕ} {held : Bool} → Stretching k w xs mid p left q at written held
-      → held ≡ false → at ≤ lastPlace xs → written < length left
-      → {nearest clip : Bool} {window : List ℤ} {v z : ℤ} {q' j : ℕ}
+  -- an output written that may be held, after none that was
+  pub stretching-turn : 4 ≤ length xs → w ≤ 2 ^ 34 → {left left' : List A} {q at written : ℕ} {held : Bool} → Stretching L k w xs mid p left q at written held
+      → held ≡ false → at ≤ lastPlace xs → written < room L left
+      → {nearest clip : Bool} {window : List ℤ} {v : ℤ} {q' j : ℕ}
       → nearest ≡ kernelOf k .nearest
       → window ≡ windowFrom xs at
       → (v ≡ outputOf (kernelOf k) q window) × (clip ≡ clipOf (kernelOf k) q window)
-      → z ≡ v
+      → Stored L left written v left'
       → q' ≡ stepped q w
       → j ≡ advanceOf nearest q q' w
-      → Stretching k w xs mid p (set left written z) q' (at + j) (written + 1) clip
-  stretching-turn four below {left} {q} {at} {written} {held} t none inside room {nearest} {clip} {window} {v} {z} {q'} {j} en ew ev ez eq ej =
+      → Stretching L k w xs mid p left' q' (at + j) (written + 1) clip
+  stretching-turn four below {left} {left'} {q} {at} {written} {held} t none inside space {nearest} {clip} {window} {v} {q'} {j} en ew ev st eq ej =
       let far : j ≤ 4 = rw (ej, en, eq) (advance-le (kernelOf k .nearest) q w (t .low) below) in
       record {
         low = rw eq (stepped-below q w);
         near = omega arith;
-        long = length-set left written z ∙ t .long;
-        room = omega (arith, length-set left written z);
+        long = st .long ∙ t .long;
+        fits = rw (st .long) (omega arith);
         more = omega (arith, t .more, byte-is clip, clip-le clip);
         goes-on = λ s old sk sw h.
             let c : p .clips + boolByte held ≡ p .clips = rw none (add-zero (p .clips)) in
-            let g : Passing s xs old left q at written (p .clips) = subst (Passing s xs old left q at written) c (t .goes-on s old sk sw h) in
-            passing-turn four g inside room (rw sw below) {nearest = nearest} {clip = clip} {window = window} {v = v} {z = z} {q' = q'} {k = j} (rw sk en) ew (rw sk ev) ez (rw sw eq) (rw sw ej);
+            let g : Passing L s xs old left q at written (p .clips) = subst (Passing L s xs old left q at written) c (t .goes-on s old sk sw h) in
+            passing-turn four g inside space (rw sw below) {nearest = nearest} {clip = clip} {window = window} {v = v} {q' = q'} {k = j} (rw sk en) ew (rw sk ev) st (rw sw eq) (rw sw ej);
       }
+
+-- a stretch ends at an output that was held, or where the space or the samples are spent
+pub stretching-ends : {A : Type 0} {L : Layout A} {k w : ℕ} {xs : List ℤ} {mid : List A} {p : Progress} {left : List A} {q at written : ℕ} {held : Bool}
+    → Stretching L k w xs mid p left q at written held → (held ≡ true) ⊎ ((room L left ≤ written) ⊎ (lastPlace xs < at))
+    → StretchRight L k w xs mid p (record { register = q; at = at; written = written; clips = p .clips + boolByte held }) left
+stretching-ends {xs} {p} {at} {held} i h = record {
+  goes-on = i .goes-on;
+  counts = (omega arith, omega (arith, i .more));
+  stops = λ e k. ⊎-elim (λ t. absurd (free held t e)) (⊎-elim (λ t. t) (λ t. absurd (omega (arith, t, k)))) h;
+}
+  where
+    -- one clip more is not none
+    free : {n : ℕ} (held : Bool) → held ≡ true → n + boolByte held ≡ n → ⊥
+    free held k e = omega (arith, rw k at e)
+
+-- ---- stretches one after another: the pass stands at p, and where no stretch is to follow the samples or the space are spent
+pub record Standing {A : Type 0} (L : Layout A) (s : State) (xs : List ℤ) (old : List A) (p : Progress) (left : List A) (more : Bool) : Type 0 where
+  pub stands : PassingAt L s xs old p left
+  pub spent : more ≡ false → p .at ≤ lastPlace xs → room L old ≤ p .written
+
+-- after a stretch less is left: a clip more is an output more
+less : (n w w' c c' : ℕ) (more : Bool) → ltb c c' ≡ more → w' ≤ n → c ≤ c' → w + c' ≤ w' + c → n - w' + boolByte more < n - w + 1
+less n w w' c c' true e h k l = let z = ltb-true c c' e in omega arith
+less n w w' c c' false e h k l = omega arith
+
+module _ {A : Type 0} {L : Layout A} {s : State} {xs : List ℤ} {old mid left : List A} {p r : Progress} {more : Bool}
+    (h : Standing L s xs old p mid more) (t : StretchRight L (s .kernel) (s .word) xs mid p r left) where
+  -- where a pass stands after one more stretch
+  pub standing-on : Standing L s xs old r left (ltb (p .clips) (r .clips))
+  standing-on =
+      let on = t .goes-on s old refl refl (h .stands) in
+      record { stands = on; spent = λ e k. rw (← on .long) (t .stops (omega (arith, t .counts .0, ltb-false (p .clips) (r .clips) e)) k) }
+
+  pub standing-less : room L old - r .written + boolByte (ltb (p .clips) (r .clips)) < room L old - p .written + 1
+  standing-less = less (room L old) (p .written) (r .written) (p .clips) (r .clips) _ refl (standing-on .stands .passed .fits) (t .counts .0) (t .counts .1)

@@ -1,6 +1,7 @@
 -- Laws of runs: their sizes and ends, that an accepted state stays accepted, that a run over more input or space begins with the run over less, and that numbers and ends do not
 -- depend on samples. Assumes nothing.
 use mathlib.Core.Path.{_≡_, refl, sym, ap, _∙_}
+use mathlib.Core.Bool.{Bool, true, false, cond}
 use mathlib.Core.List.{List, [], _∷_, _++_}
 use Prim.Native.Nat.{ℕ, suc, _+_, _-_, _^_, _≤_, _<_}
 use native.Mathlib.Omega.{arith}
@@ -10,6 +11,7 @@ use lib.ListN.{length, drop}
 use Rattle.oscillator.specs.Register.{stepped, advanceOf}
 use Rattle.oscillator.proofs.Positions.{stepped-below}
 use Rattle.kernels.specs.Kernel.{kernelOf}
+use Rattle.kernels.specs.Value.{clipOf}
 use Rattle.converter.specs.declared.state.State.{State}
 use Rattle.converter.specs.Feeding.{HUNGRY, FULL, outputNext, clipNext, advanced, taking, Ran, ended, wrote, took, rule}
 use Rattle.converter.proofs.States.{Sound, sound-advanced, sound-taking}
@@ -39,6 +41,19 @@ rule-ending =
 pub ending-sizes : {xs : List ℤ} {n : ℕ} {r : Ran} → Ending xs n r → (r .taken ≤ length xs) × (length (r .outputs) ≤ n)
 ending-sizes (full a b c d) = (c, omega arith)
 ending-sizes (hungry a b c d) = (omega arith, b)
+
+-- ---- clips are no more than outputs
+one-most : (t : Bool) → cond t 1 0 ≤ 1
+one-most true = omega arith
+one-most false = omega arith
+
+pub rule-clips : (xs : List ℤ) (n : ℕ) (s : State) → rule xs n s .clips ≤ length (rule xs n s .outputs)
+rule-clips =
+    rule-ind (λ xs n s r. r .clips ≤ length (r .outputs))
+    (λ xs s e. omega arith)
+    (λ xs n s r e h. omega (arith, one-most (clipOf (kernelOf (s .kernel)) (s .register) (s .window))))
+    (λ n k s e. omega arith)
+    (λ x xs n k s r e h. h)
 
 -- ---- an accepted state stays accepted, and its register 32 bits wide
 pub rule-sound : (xs : List ℤ) (n : ℕ) (s : State) → Sound s → s .register < 2 ^ 32 → Sound (rule xs n s .state) × (rule xs n s .state .register < 2 ^ 32)

@@ -2,7 +2,7 @@
 ghost use mathlib.Core.Path.{_≡_};
 ghost use Prim.Native.Nat.{_+_, _^_, _≤_, _<_};
 ghost use lib.ListN.{length};
-ghost use Rattle.converter.specs.Pass.{windowFrom, passing, StretchRight, PassRight};
+ghost use Rattle.converter.specs.Pass.{asSamples, windowFrom, passing, StretchRight, PassRight};
 
 // Where a pass stands: the next output's register, and `at`, where its window begins in the samples (past length − 4, samples are still needed); and what was written so far.
 pub struct Progress {
@@ -28,7 +28,7 @@ pub fn window_at(samples: &[i16], at: usize) -> [i16; 4]
 // Goes on with a pass up to an output that is held, or until the samples or the space are spent. Outputs are seldom held, so the loop has no count of clips in it.
 fn stretch(kernel: u8, word: u64, from: Progress, samples: &[i16], output: &mut [i16]) -> Progress
     requires { ⌜ (word ≤ 2 ^ 34) × (4 ≤ length (now samples)) × (from .at ≤ length (now samples)) × (from .clips ≤ from .written) × (from .written ≤ length (now output)) ⌝ }
-    ensures { λ r. ⌜ StretchRight kernel word (now (samples .entry)) (now (output .entry)) from r (now (output .exit)) ⌝ }
+    ensures { λ r. ⌜ StretchRight asSamples kernel word (now (samples .entry)) (now (output .entry)) from r (now (output .exit)) ⌝ }
 {
     let nearest = kernels::nearest(kernel);
     let end = samples.len() - 4;
@@ -64,7 +64,7 @@ fn pass(
     output: &mut [i16],
 ) -> Progress
     requires { ⌜ (word ≤ 2 ^ 34) × (needed ≤ 4) × (4 ≤ length (now samples)) ⌝ }
-    ensures { λ r. ⌜ PassRight (passing kernel word register needed) (now (samples .entry)) (now (output .entry)) r (now (output .exit)) ⌝ }
+    ensures { λ r. ⌜ PassRight asSamples (passing kernel word register needed) (now (samples .entry)) (now (output .entry)) r (now (output .exit)) ⌝ }
 {
     let mut p = Progress {
         register: register,
@@ -91,7 +91,7 @@ pub fn pass_by(
     output: &mut [i16],
 ) -> Progress
     requires { ⌜ (kernel < 4) × (word ≤ 2 ^ 34) × (needed ≤ 4) × (4 ≤ length (now samples)) ⌝ }
-    ensures { λ r. ⌜ PassRight (passing kernel word register needed) (now (samples .entry)) (now (output .entry)) r (now (output .exit)) ⌝ }
+    ensures { λ r. ⌜ PassRight asSamples (passing kernel word register needed) (now (samples .entry)) (now (output .entry)) r (now (output .exit)) ⌝ }
 {
     match kernel {
         0 => pass(0, word, register, needed, samples, output),

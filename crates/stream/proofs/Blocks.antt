@@ -1,6 +1,6 @@
 -- A feed whose outputs go to text, block by block: the blocks come to one feed into all the room. Assumes nothing.
 use mathlib.Core.Path.{_≡_, refl, sym, ap, _∙_}
-use mathlib.Core.Bool.{Bool, cond, true, false}
+use mathlib.Core.Bool.{Bool, true, false}
 use mathlib.Core.Logic.{_⊎_, inl, inr, ⊎-elim}
 use mathlib.Core.List.{List, [], _++_, append-assoc, append-nil}
 use Prim.Native.Nat.{ℕ, suc, _+_, _-_, _*_, _^_, _≤_, _<_, min}
@@ -9,33 +9,18 @@ use native.Mathlib.Nat.{zero-add, add-zero, add-assoc}
 use lib.IntN.{ℤ}
 use lib.ListN.{length, take, drop}
 use lib.Seq.{take-at, drop-drop, drop-length}
-use Rattle.kernels.specs.Kernel.{kernelOf}
-use Rattle.kernels.specs.Value.{clipOf}
 use Rattle.converter.specs.declared.state.State.{State}
 use Rattle.converter.specs.declared.feeding.Fed.{Fed}
 use Rattle.converter.specs.Start.{isState}
 use Rattle.converter.specs.Feeding.{HUNGRY, FULL, Ran, rule, Answer, endNumber, answerOf, accepted, fedOf, refusedFeed, outputsOf, over, FedRight}
 use Rattle.converter.proofs.States.{is-state, state-is}
-use Rattle.converter.proofs.Turns.{rule-hungry, rule-ind}
-use Rattle.converter.proofs.Runs.{Ending, full, hungry, rule-ending, rule-sound, rule-more, ran, then}
+use Rattle.converter.proofs.Turns.{rule-hungry}
+use Rattle.converter.proofs.Runs.{Ending, full, hungry, rule-ending, rule-clips, rule-sound, rule-more, ran, then}
 use Rattle.converter.proofs.Feeds.{fed-rule, fed-refused, fed-sizes, two-feeds}
 use Rattle.stream.specs.Program.{outputLines}
 use Rattle.stream.specs.Turn.{spaceIn}
 use Rattle.stream.specs.Block.{goesOn, FedText}
 use Rattle.stream.proofs.Lines.{Written, none-written, written-length, line-written, lent, lent-all, lent-length, returned, outputs-length, outputs-append}
-
--- ---- clips are no more than outputs
-one-most : (t : Bool) → cond t 1 0 ≤ 1
-one-most true = omega arith
-one-most false = omega arith
-
-run-clips : (xs : List ℤ) (n : ℕ) (s : State) → rule xs n s .clips ≤ length (rule xs n s .outputs)
-run-clips =
-    rule-ind (λ xs n s r. r .clips ≤ length (r .outputs))
-    (λ xs s e. omega arith)
-    (λ xs n s r e h. omega (arith, one-most (clipOf (kernelOf (s .kernel)) (s .register) (s .window))))
-    (λ n k s e. omega arith)
-    (λ x xs n k s r e h. h)
 
 -- ---- a run that ends HUNGRY is the same with more space
 hungry-run : (xs : List ℤ) (n : ℕ) (s : State) → let r = rule xs n s in length (r .outputs) ≤ n → r .taken ≡ length xs → 1 ≤ r .state .needed → r .end ≡ HUNGRY
@@ -70,7 +55,7 @@ module _ (s : State) (xs : List ℤ) (n : ℕ) where
   fed-ends = ends-by (isState s) refl
 
   clips-by : (b : Bool) → isState s ≡ b → fed .clips ≤ fed .written
-  clips-by true e = rw (fed-rule s e xs n .0) (run-clips xs n s)
+  clips-by true e = rw (fed-rule s e xs n .0) (rule-clips xs n s)
   clips-by false e = rw (fed-refused s e xs n .0) (omega arith)
 
   fed-clips : fed .clips ≤ fed .written

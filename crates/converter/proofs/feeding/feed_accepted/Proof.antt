@@ -1,18 +1,20 @@
 -- `converter::feeding::feed_accepted` meets its contract: a pass over the window and the first samples, and where samples are still needed one over the input. Assumes nothing.
 use borrow.Author.Needs.{needs}
 use borrow.Author.Tests.{ltb-true, ltb-false}
-use mathlib.Core.Path.{_≡_, sym}
+use mathlib.Core.Path.{_≡_, refl, sym}
 use mathlib.Core.Logic.{⊎-elim}
 use mathlib.Core.List.{List}
 use Prim.Native.Nat.{_+_, _^_, _≤_, _<_}
 use native.Mathlib.Omega.{arith}
+use native.Mathlib.Nat.{mul-one}
 use lib.IntN.{ℤ}
 use lib.ListN.{length, take}
 use lib.Seq.{length-take-le}
 use denote.Ref.{now}
 use Rattle.converter.specs.declared.state.State.{State}
+use Rattle.converter.specs.Pass.{asSamples}
 use Rattle.converter.proofs.States.{Sound, is-state}
-use Rattle.converter.proofs.Finishing.{joint, first-fed, rest-fed, totals}
+use Rattle.converter.proofs.Finishing.{joint, first-fed, rest-fed, totals, fed-right}
 use Rattle.converter.proofs.feeding.feed_accepted.Statement.{statement}
 use Rattle.converter.proofs.feeding.feed_accepted.Tie as tie
 
@@ -59,17 +61,19 @@ returns : tie.Need-returns
 returns c =
     let z = c .before .before .before .before .before .before .before .before in
     let p = c .before .before .before .before .before .pass-by in
-    first-fed (s z) (xs z) (z .before .before .before .pre) (wide z) (joined z) (p .ensures)
+    fed-right (z .before .before .before .pre)
+    (first-fed asSamples (omega arith) (λ x. refl) (s z) (xs z) (wide z) (joined z) (p .ensures)
     (λ h. ⊎-elim (λ t. let k = t .taken in absurd (omega (arith, size z))) (λ t. ltb-true _ _ (t .1 .taken)) (c .before .before .if1 .came))
-    (c .finish .ensures)
+    (c .finish .ensures))
 
 returns-2 : tie.Need-returns-2
 returns-2 c =
     let b = c .before .before .before .before in
     let z = start b in
     let p = first b .pass-by in
-    rest-fed (s z) (xs z) (z .before .before .before .pre) (wide z) (joined z) (p .ensures) (omega (arith, size z, far b)) (many b) (c .before .before .pass-by2 .ensures)
-    (c .finish2 .ensures)
+    fed-right (z .before .before .before .pre)
+    (rest-fed asSamples (omega arith) (λ x. refl) (s z) (xs z) (wide z) (joined z) (p .ensures) (omega (arith, size z, far b)) (many b) (sym (mul-one (p .result .written))) (c .before .before .pass-by2 .ensures)
+    (c .finish2 .ensures))
 
 join-requires : tie.Need-join-requires
 join-requires c κs = search needs
@@ -102,7 +106,7 @@ finish-requires : tie.Need-finish-requires
 finish-requires c κs =
     let z = c .before .before .before .before .before .before .before in
     let f = c .before .before .before .before .pass-by .ensures .stands .passed in
-    (omega (arith, size z), f .near, omega arith, omega (arith, f .room), omega (arith, f .room, f .few))
+    (omega (arith, size z), f .near, omega arith, omega (arith, f .fits), omega (arith, f .fits, f .few))
 
 same-length : tie.Need-same-length
 same-length c = search needs
@@ -132,7 +136,7 @@ finish-requires-2 : tie.Need-finish-requires-2
 finish-requires-2 c κs =
     let b = c .before .before .before in
     let q = c .before .pass-by2 .ensures in
-    let t = totals (first b .pass-by .ensures) q in
+    let t = totals asSamples (omega arith) (first b .pass-by .ensures) (sym (mul-one (first b .pass-by .result .written))) q in
     let l = short (start b) in
     (many b, q .stands .passed .near, omega arith, omega (arith, t, l), omega (arith, t, l))
 

@@ -1,23 +1,22 @@
 -- `converter::pass::stretch` meets its contract. The invariant is `Stretching`; the measure is the space left. Assumes nothing.
 use borrow.Author.Needs.{needs}
 use borrow.Author.Tests.{ltb-true, ltb-false, not-true, not-false}
-use mathlib.Core.Path.{_≡_}
-use mathlib.Core.Bool.{Bool, true}
-use mathlib.Core.Logic.{⊎-elim}
-use Prim.Native.Nat.{ℕ, _+_, _-_, _^_, _<_}
+use mathlib.Core.Logic.{⊎-elim, inl, inr}
+use Prim.Native.Nat.{_-_, _^_, _<_}
 use native.Mathlib.Omega.{arith}
 use lib.ListN.{length}
 use mir.Syntax.{w16}
-use mir.Val.{SFits, boolByte}
+use mir.Val.{SFits}
 use mir.Facts.{toZ-ofZ}
 use denote.Ref.{now}
-use Rattle.converter.proofs.Passing.{byte-is, clip-le, Stretching, stretching-begins, stretching-turn}
+use Rattle.converter.specs.Pass.{asSamples}
+use Rattle.converter.proofs.Passing.{byte-is, clip-le, stored-one, Stretching, stretching-begins, stretching-turn, stretching-ends}
 use Rattle.converter.proofs.pass.stretch.Statement.{statement}
 use Rattle.converter.proofs.pass.stretch.Tie as tie
 
 abbrev Inv-loop : tie.InvT-loop
 Inv-loop kernel word from samples output₀ nearest end register₀ at₀ written₀ held₀ output register at written held =
-    Stretching kernel word samples output₀ from output register at written held
+    Stretching asSamples kernel word samples output₀ from output register at written held
 
 abbrev μ-loop : tie.MeasureT-loop
 μ-loop kernel word from samples output₀ nearest end register₀ at₀ written₀ held₀ output register at written held = length output₀ - written
@@ -25,17 +24,10 @@ abbrev μ-loop : tie.MeasureT-loop
 returns : tie.Need-returns Inv-loop μ-loop
 returns c =
     let l = c .before .before in
-    let i = l .loop .inv in
-    record {
-      goes-on = i .goes-on;
-      counts = (omega arith, omega (arith, i .more));
-      stops = λ e h.
-          ⊎-elim (λ t. absurd (free (l .loop .held) e (not-false (l .loop .held) (t .2 .left)))) (⊎-elim (λ t. ltb-false _ _ (t .1 .left)) (λ t. let k = t .left in absurd (omega arith))) (c .before .loop-test .came);
-    }
-  where
-    -- one clip more is not none
-    free : {n : ℕ} (held : Bool) → n + boolByte held ≡ n → held ≡ true → ⊥
-    free {n} held e k = omega (arith, rw k at e)
+    stretching-ends (l .loop .inv)
+    (⊎-elim (λ t. inl (not-false (l .loop .held) (t .2 .left)))
+    (⊎-elim (λ t. inr (inl (omega (arith, ltb-false)))) (λ t. let k = t .left in inr (inr (omega arith))))
+    (c .before .loop-test .came))
 
 loop-again : tie.Need-loop-again Inv-loop μ-loop
 loop-again c =
@@ -43,6 +35,7 @@ loop-again c =
     let t = e .before .before in
     let l = t .before .before .before in
     let a = l .before .before in
+    let space : l .loop .written < length (l .loop .output) = omega (arith, ltb-true) in
     let fits : SFits w16 (e .evaluate .result .value) = search needs in
     stretching-turn
     (a .pre .1)
@@ -50,19 +43,19 @@ loop-again c =
     (l .loop .inv)
     (not-true _ (t .if2 .taken))
     (omega arith)
-    (ltb-true _ _ (t .before .if1 .taken))
+    (omega arith)
     (l .before .nearest .ensures)
     (e .before .window-at .ensures)
     (e .evaluate .ensures)
-    (toZ-ofZ fits)
+    (stored-one (l .loop .output) (l .loop .written) space (toZ-ofZ fits))
     (c .before .step .ensures)
     (c .advance .ensures)
 
 loop-holds : tie.Need-loop-holds Inv-loop μ-loop
-loop-holds c = let h = c .before .pre in stretching-begins (search needs) (h .2) (h .4)
+loop-holds c = let h = c .before .pre in stretching-begins (search needs) (h .2) (omega (arith, h .4))
 
 loop-less : tie.Need-loop-less Inv-loop μ-loop
-loop-less c = let i = loop-again c in omega (arith, i .room, i .long)
+loop-less c = let i = loop-again c in omega (arith, i .fits, i .long)
 
 nearest-requires : tie.Need-nearest-requires Inv-loop μ-loop
 nearest-requires c κs = search needs

@@ -1,0 +1,7 @@
+pub mod Numbers
+pub mod Samples
+pub mod Images
+pub mod Pairs
+pub mod Windows
+pub mod Hosts
+pub mod Calls

@@ -1,0 +1,52 @@
+-- `resampler::image::is_image` meets its contract. Assumes nothing.
+use mathlib.Core.Path.{_≡_, sym, ap, _∙_}
+use native.Mathlib.Omega.{arith}
+use borrow.Author.Needs.{needs}
+use borrow.Author.Tests.{eqb-true, eq-eqb, ne-eqb, not-true, not-false}
+use denote.Ref.{now}
+use lib.ListN.{length}
+use Rattle.converter.specs.Start.{isState}
+use Rattle.resampler.specs.declared.image.Saved.{Saved}
+use Rattle.resampler.specs.Bytes.{numberAt}
+use Rattle.resampler.specs.Image.{isImage}
+use Rattle.resampler.proofs.image.is_image.Statement.{statement}
+use Rattle.resampler.proofs.image.is_image.Tie as tie
+
+-- past the first test, the length is 40
+long : (c : tie.Else1) → length (now (c .before .before .before .args .image)) ≡ 40
+long c = eqb-true _ 40 (sym (c .before .is-long .ensures) ∙ not-false _ (c .if1 .left))
+
+is-long-requires : tie.Need-is-long-requires
+is-long-requires c κs = search needs
+
+returns : tie.Need-returns
+unfolding isImage
+returns c = rw (← c .before .is-long .ensures, not-true (c .before .is-long .result) (c .if1 .taken))
+
+number-at-requires : tie.Need-number-at-requires
+number-at-requires c κs = omega (arith, long c)
+
+returns-2 : tie.Need-returns-2
+unfolding isImage
+returns-2 c =
+    let l = c .before .before in
+    let bs = now (l .before .before .before .args .image) in
+    rw (eq-eqb (length bs) 40 (long l), ne-eqb (numberAt 2 2 bs) 0 (λ e. c .if2 .taken (c .before .number-at .ensures .0 ∙ e)))
+
+decode-requires : tie.Need-decode-requires
+decode-requires c κs = long (c .before .before)
+
+is-state-requires : tie.Need-is-state-requires
+is-state-requires c κs = search needs
+
+returns-3 : tie.Need-returns-3
+unfolding isImage
+returns-3 c =
+    let d = c .before .before in
+    let l = d .before .before .before in
+    let bs = now (l .before .before .before .args .image) in
+    rw (eq-eqb (length bs) 40 (long l), eq-eqb (numberAt 2 2 bs) 0 (sym (d .before .before .number-at .ensures .0) ∙ d .before .if2 .left))
+    (c .is-state .ensures ∙ ap (λ (v : Saved). isState (v .state)) (d .decode .ensures))
+
+pub is-image-spec : {M : Type 1} → statement M
+is-image-spec = tie.close (tie.spec is-long-requires returns number-at-requires returns-2 decode-requires is-state-requires returns-3)

@@ -1,0 +1,5 @@
+pub mod Bytes
+pub mod Image
+pub mod Host
+pub mod Calls
+pub mod Feeding

@@ -1,0 +1,114 @@
+//! Stored states whose next output is hard to round: its value lies half-way between two whole
+//! numbers, or next to it. Arithmetic that is not exact, as with floats, goes wrong there first.
+
+use crate::kernels::{self, Near};
+use crate::oscillator;
+use crate::random::Random;
+use crate::state::{self, State};
+
+const TABLE: usize = 1 << 20;
+
+/// How far `state`'s next value lies above the half that is nearest to it, times `scale`.
+pub fn above_half(state: &State) -> i128 {
+    let fraction = oscillator::fraction(state.kernel, state.register as i128);
+    let m = oscillator::filter_fraction(fraction);
+    let scale = kernels::scale(state.kernel, 14);
+    kernels::value(state.kernel, &state::near(state), m, 14).rem_euclid(scale) - scale / 2
+}
+
+/// The nearest that a value comes to a half without being one, times `scale`: one step of the
+/// kernel's power of u. For kernel 3, whose steps are very many, 32 of them.
+pub fn nearest(kernel: u8) -> i128 {
+    [1 << 28, 1 << 14, 1 << 14, 32][kernel as usize]
+}
+
+/// States at a half.
+pub fn exact(random: &mut Random, kernel: u8, count: usize) -> Vec<State> {
+    let mut found = Vec::new();
+    while found.len() < count {
+        let register = (random.below(15) as u32 + 1) << 28;
+        let size = random.pick(&[3, 200, 65536]);
+        let sample = |_: i16| (random.below(size) as i64 - size as i64 / 2) as i16;
+        let window = [0; 4].map(sample);
+        let state = State { kernel, needed: 0, register, word: 1 << 32, window };
+        if above_half(&state) == 0 {
+            found.push(state);
+        }
+    }
+    found
+}
+
+/// States next to a half, at least four on either side: at most `nearest` from it. A value is the
+/// sum of what xm and x0 give and of what x1 and x2 give. So two tables are made for some m: what is
+/// missing to a half with many pairs of the former, and what many pairs of the latter give. Rows
+/// that lie next to each other make a state.
+pub fn narrow(random: &mut Random, kernel: u8) -> Vec<State> {
+    let mut found = Vec::new();
+    for side in [-1, 1] {
+        let enough = found.len() + 4;
+        while found.len() < enough {
+            let register = (2 * random.below(8192) as u32 + 1) << 18 | random.next() as u32 >> 14;
+            let [at_xm, at_x0, at_x1, at_x2] = weights(kernel, register);
+            let half = kernels::scale(kernel, 14) as i64 / 2;
+            let missing = table(random, kernel, |xm, x0| half - at_xm * xm - at_x0 * x0);
+            let given = table(random, kernel, |x1, x2| at_x1 * x1 + at_x2 * x2);
+            let pairs = neighbours(&missing, &given, side, nearest(kernel) as i64);
+            let states = pairs.map(|samples| joined(kernel, register, samples));
+            let near =
+                |state: &State| (1..=nearest(kernel)).contains(&(side as i128 * above_half(state)));
+            found.extend(states.filter(near).take(2));
+        }
+    }
+    found
+}
+
+/// The samples of rows of `given` that lie at most `limit` above (side 1) or below (side −1) a row
+/// of `missing`. Both tables are sorted.
+fn neighbours<'a>(
+    missing: &'a [Row],
+    given: &'a [Row],
+    side: i64,
+    limit: i64,
+) -> impl Iterator<Item = [i16; 4]> + 'a {
+    let mut place = 0;
+    missing.iter().filter_map(move |row| {
+        // The first row above what is missing, or the last below it.
+        let passed = |other: &Row| other.0 < row.0 || side == 1 && other.0 == row.0;
+        while place < given.len() && passed(&given[place]) {
+            place += 1;
+        }
+        let other = given.get(if side == 1 { place } else { place.wrapping_sub(1) })?;
+        let distance = side * (other.0 - row.0);
+        (distance <= limit).then_some([row.1, row.2, other.1, other.2])
+    })
+}
+
+/// A number modulo `scale`, and the two samples that it comes from.
+type Row = (i64, i16, i16);
+
+/// What the numbers are for many pairs of samples, by size.
+fn table(random: &mut Random, kernel: u8, number: impl Fn(i64, i64) -> i64) -> Vec<Row> {
+    let scale = kernels::scale(kernel, 14) as i64;
+    let row = |_| {
+        let (one, other) = (random.next() as i16, random.next() as i16);
+        (number(one as i64, other as i64).rem_euclid(scale), one, other)
+    };
+    let mut rows = (0..TABLE).map(row).collect::<Vec<Row>>();
+    rows.sort_unstable();
+    rows
+}
+
+/// What each sample counts in the value, times `scale`.
+fn weights(kernel: u8, register: u32) -> [i64; 4] {
+    let m = oscillator::filter_fraction(oscillator::fraction(kernel, register as i128));
+    [[1, 0, 0, 0], [0, 1, 0, 0], [0, 0, 1, 0], [0, 0, 0, 1]]
+        .map(|[xm, x0, x1, x2]| kernels::value(kernel, &Near { xm, x0, x1, x2 }, m, 14) as i64)
+}
+
+fn joined(kernel: u8, register: u32, [xm, x0, x1, x2]: [i16; 4]) -> State {
+    let window = match kernels::reach(kernel) {
+        1 => [x2, xm, x0, x1],
+        _ => [xm, x0, x1, x2],
+    };
+    State { kernel, needed: 0, register, word: 1 << 32, window }
+}

@@ -1,0 +1,58 @@
+//! The image: a state saved in bytes. Document 01, "Saved state for the C host".
+
+use crate::state::{self, End, Fed, State};
+
+pub const LENGTH: usize = 40;
+/// Where the eight bytes of the word begin.
+pub const WORD: usize = 8;
+
+/// The state in an image, or refusal 5: "image not 40 bytes or bytes 2, 3 not zero", or a state
+/// that is refused. Taken, written, clips and end are "anything on entry".
+pub fn decode(image: &[u8]) -> Result<State, u32> {
+    if image.len() != LENGTH || image[2] != 0 || image[3] != 0 {
+        return Err(5);
+    }
+    let state = State {
+        kernel: image[0],
+        needed: image[1],
+        register: little(&image[4..8]) as u32,
+        word: little(&image[WORD..16]),
+        window: [16, 18, 20, 22].map(|place| little(&image[place..place + 2]) as u16 as i16),
+    };
+    state::check(&state)?;
+    Ok(state)
+}
+
+/// "40 bytes, little-endian: kernel, needed count, two zero bytes, register (4), word (8), window
+/// (four of 2), then taken, written, clips, and 0 for HUNGRY or 1 for FULL (4 each)".
+pub fn encode(fed: &Fed) -> Vec<u8> {
+    let state = &fed.state;
+    let mut image = vec![state.kernel, state.needed, 0, 0];
+    image.extend(state.register.to_le_bytes());
+    image.extend(state.word.to_le_bytes());
+    for sample in state.window {
+        image.extend(sample.to_le_bytes());
+    }
+    let end = match fed.end {
+        End::Hungry => 0,
+        End::Full => 1,
+    };
+    for count in [fed.taken as u32, fed.written as u32, fed.clips as u32, end] {
+        image.extend(count.to_le_bytes());
+    }
+    image
+}
+
+/// What a start leaves: the fresh state, zero counts, HUNGRY.
+pub fn encode_fresh(state: State) -> Vec<u8> {
+    encode(&Fed { state, taken: 0, written: 0, clips: 0, end: End::Hungry })
+}
+
+/// Taken, written, clips and end of an image of 40 bytes.
+pub fn counts(image: &[u8]) -> [u32; 4] {
+    [24, 28, 32, 36].map(|place| little(&image[place..place + 4]) as u32)
+}
+
+fn little(bytes: &[u8]) -> u64 {
+    bytes.iter().rev().fold(0, |sum, &byte| sum << 8 | byte as u64)
+}

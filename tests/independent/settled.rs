@@ -1,0 +1,180 @@
+//! The settled examples of document 01, starred or not, and the printed examples of the program,
+//! run on the implementation before every command.
+
+use crate::host::{self, Call, Request};
+use crate::image;
+use crate::kernels::{self, Near};
+use crate::oscillator;
+use crate::paper::Paper;
+use crate::program;
+use crate::random::Random;
+use crate::settings::{self, Setting};
+use crate::state::{self, End, Fed};
+
+const HALF: u64 = 1 << 31;
+
+/// Runs all examples: how many hold, or which does not.
+pub fn run() -> Result<usize, String> {
+    let mut examples = Vec::new();
+    examples.extend(streams());
+    examples.extend(single_outputs());
+    examples.extend(fractions());
+    examples.extend(words());
+    examples.extend(empty_buffers());
+    examples.extend(programs());
+    examples.extend(facts());
+    match examples.iter().find(|(_, holds)| !holds) {
+        Some((name, _)) => Err(format!("settled example does not hold: {name}")),
+        None => Ok(examples.len()),
+    }
+}
+
+type Example = (&'static str, bool);
+
+/// The outputs of one feed after a start, with room for all, from the state over samples, from the
+/// host calls and from the paper, which must agree.
+fn outputs(kernel: u8, word: u64, phase: u32, samples: &[i16]) -> Vec<i16> {
+    let setting = Setting::Word(word);
+    let fresh = state::start(kernel as u32, setting, phase).unwrap();
+    let mut places = [0; 32];
+    let fed = state::feed(fresh, samples, &mut places).unwrap();
+    let outputs = &places[..fed.written];
+    let mut call = Call {
+        request: Request::Start(kernel as u32, setting, phase),
+        image: vec![0xee; image::LENGTH],
+        input: host::bytes(samples),
+        output: vec![0; 64],
+    };
+    call.image = host::answer(&call).image;
+    call.request = Request::Feed;
+    assert_eq!(host::answer(&call).output, host::bytes(&places));
+    let mut paper = Paper::start(kernel as u32, setting, phase).unwrap();
+    let page = paper.feed(samples, 32);
+    assert_eq!((page.joined, page.made, page.end), (fed.taken, fed.written, fed.end));
+    for (k, output) in outputs.iter().enumerate() {
+        assert_eq!(paper.output(paper.position(&page, k)), *output);
+    }
+    outputs.to_vec()
+}
+
+fn streams() -> Vec<Example> {
+    let nine = [5, 1, 2, 3, 9, 1, 2, 3, 7];
+    vec![
+        (
+            "kernel 0, half word, 0, 100, 40: 0, 50, 100, 70",
+            outputs(0, HALF, 0, &[0, 100, 40]) == [0, 50, 100, 70],
+        ),
+        (
+            "kernel 3, half word, 16, 32, 48, 80: 16, 24, 32, 39",
+            outputs(3, HALF, 0, &[16, 32, 48, 80]) == [16, 24, 32, 39],
+        ),
+        (
+            "kernel 1, P C0000000, over 10, 20, 40 the first gives 17",
+            outputs(1, 1 << 30, 0xc0000000, &[10, 20, 40])[0] == 17,
+        ),
+        (
+            "word 2^34, kernel 0, nine samples, P 0: two outputs",
+            outputs(0, 1 << 34, 0, &nine) == [5, 9],
+        ),
+    ]
+}
+
+fn single_outputs() -> Vec<Example> {
+    let at_half = |kernel, xm, x0, x1, x2| {
+        let near = Near { xm, x0, x1, x2 };
+        kernels::output(kernel, &near, 8192)
+    };
+    vec![
+        ("kernel 2 at u = 1/2 over 16, 32, 48, 80: 38", at_half(2, 16, 32, 48, 80) == (38, false)),
+        ("kernel 0 at 1/2: 0, 1 gives 1", at_half(0, 0, 0, 1, 0) == (1, false)),
+        ("kernel 0 at 1/2: 0, -1 gives 0", at_half(0, 0, 0, -1, 0) == (0, false)),
+        (
+            "kernel 3 at 1/2: -32768, 32767, 32767, -32768 gives 32767, one clip",
+            at_half(3, -32768, 32767, 32767, -32768) == (32767, true),
+        ),
+    ]
+}
+
+fn fractions() -> Vec<Example> {
+    let at = |kernel, position| {
+        let fraction = oscillator::fraction(kernel, position);
+        let m = oscillator::filter_fraction(fraction);
+        (oscillator::basepoint(kernel, position), m)
+    };
+    vec![
+        (
+            "kernel 1, P C0000000, word 2^30: b is 1 with m -4096, then 1 with m 0",
+            at(1, 0xc0000000) == (1, -4096) && at(1, 0xc0000000 + (1 << 30)) == (1, 0),
+        ),
+        ("kernel 1: P 7FFFFFFF has b 0, m 8191", at(1, 0x7fffffff) == (0, 8191)),
+        ("kernel 1: P 80000000 has b 1, m -8192", at(1, 0x80000000) == (1, -8192)),
+        ("fraction 3FFFF: m 0", oscillator::filter_fraction(0x3ffff) == 0),
+        ("fraction 40000: m 1", oscillator::filter_fraction(0x40000) == 1),
+    ]
+}
+
+fn words() -> Vec<Example> {
+    let ratio = |ratio: f64| settings::word(Setting::Ratio(ratio.to_bits()));
+    let rates = |fin, fout| settings::word(Setting::Rates(fin, fout));
+    let two = |power: i32| 2f64.powi(power);
+    vec![
+        ("rates 1 and 3: 1431655765", rates(1, 3) == Ok(1431655765)),
+        ("rates 2 and 3: 2863311531", rates(2, 3) == Ok(2863311531)),
+        ("rates 1 and 0: refusal 3", rates(1, 0) == Err(3)),
+        ("ratio 2^-33: word 1", ratio(two(-33)) == Ok(1)),
+        ("ratio 2^-34: refusal 4", ratio(two(-34)) == Err(4)),
+        ("ratio -1: refusal 2", ratio(-1.0) == Err(2)),
+        ("ratio 4 + 2^-34: word 2^34", ratio(4.0 + two(-34)) == Ok(1 << 34)),
+        ("ratio 4 + 2^-33: refusal 4", ratio(4.0 + two(-33)) == Err(4)),
+        ("ratio 2^1000: refusal 4", ratio(two(1000)) == Err(4)),
+        ("ratio minus zero is zero: refusal 4", ratio(-0.0) == Err(4)),
+    ]
+}
+
+/// "Empty input and empty output: FULL if none is needed, else HUNGRY."
+fn empty_buffers() -> Vec<Example> {
+    let fresh = state::start(2, Setting::Word(HALF), 0).unwrap();
+    let end = |needed| {
+        let state = state::State { needed, ..fresh };
+        let Fed { taken, written, end, .. } = state::feed(state, &[], &mut []).unwrap();
+        (taken, written, end)
+    };
+    let hungry = (1..=4).all(|needed| end(needed) == (0, 0, End::Hungry));
+    vec![
+        ("empty input and output, none needed: FULL", end(0) == (0, 0, End::Full)),
+        ("empty input and output, some needed: HUNGRY", hungry),
+    ]
+}
+
+fn programs() -> Vec<Example> {
+    let short = program::run(b"K00800000000000000\n");
+    let half = program::run(b"K008000000000000000\nD000000000300000064002871\n");
+    let printed = b"0000\n0032\n0064\n0046\nE00000000000000040000000000000000\n";
+    vec![
+        ("the program: one digit too few prints R09", short == b"R09\n"),
+        ("the program: the printed example", half == printed),
+        ("the program: empty input gives R06", program::run(b"") == b"R06\n"),
+        (
+            "the program: bytes left with no byte 10 give R06",
+            program::run(b"K008000000000000000\nD0") == b"R06\n",
+        ),
+    ]
+}
+
+/// Facts that the text states: the advance by carry and top bits is the basepoint's; a negative
+/// fraction is not cut toward zero; and the scale of the paper's values is a multiple of K.
+fn facts() -> Vec<Example> {
+    let mut random = Random(1);
+    let carry = (0..10000).all(|_| {
+        let (kernel, register) = (random.below(4) as u8, random.next() as u32);
+        let word = random.magnitude(34) + 1;
+        let advance = oscillator::advance(kernel, register, word);
+        advance == oscillator::advance_by_carry(kernel, register, word) && advance <= 4
+    });
+    let whole = |kernel| kernels::scale(kernel, 32) % kernels::bound_divisor(kernel) == 0;
+    vec![
+        ("the advance is whole part, carry and top bits", carry),
+        ("fraction -1: m -1", oscillator::filter_fraction(-1) == -1),
+        ("the scale is a multiple of K", (0..4).all(whole)),
+    ]
+}
