@@ -124,8 +124,7 @@ uint32_t resampler_retune_rates(uint8_t *image, size_t image_length, uint32_t fi
 
    So after HUNGRY all the input was taken, and all outputs are written that the samples so far allow. After FULL
    the space is all written and another output is due: the host calls again with new space, and with the input that
-   was not taken, which may be none. A feed of n samples after a start or a HUNGRY feed writes at most n times
-   2^32 / word outputs, rounded up.
+   was not taken, which may be none.
 
    Refusals, in this order: 5, for any of its reasons; 12, if the length of the input or of the output is odd or
    above 65,536. Both may be 0. */

@@ -1,4 +1,5 @@
--- What the inner functions of feed promise one another. No other contract cites this file, and a reader of the definitions can pass it over.
+-- What the inner functions of feed promise one another, over samples and, in `resampler`, over bytes. No exported function's contract cites this file, and a reader of the definitions can
+-- pass it over.
 --
 -- A pass sees the samples at once: the newest four are four places of a list, and a run of the rule goes on from a place b of it.
 use mathlib.Core.Path.{_≡_}

@@ -1,27 +1,31 @@
 -- What a host call returns and leaves, by cases: refused, or accepted. Assumes nothing.
 use mathlib.Core.Path.{_≡_, sym, ap, _∙_}
 use mathlib.Core.Bool.{Bool, true, false, cond, _&&_}
-use mathlib.Core.List.{List}
+use mathlib.Core.List.{List, _++_}
 use Prim.Native.Nat.{ℕ, _/_, _%_, _≤_}
 use native.Mathlib.Omega.{arith}
 use borrow.Author.Tests.{leb-true, eqb-true, ne-eqb}
 use lib.Dec.{leb, eqb}
 use lib.IntN.{ℤ}
-use lib.ListN.{length}
+use lib.ListN.{length, take, drop}
 use Rattle.integers.specs.Table.{both}
 use Rattle.oscillator.specs.declared.settings.Setting.{Setting}
+use Rattle.oscillator.specs.Word.{word, wordOf}
 use Rattle.converter.specs.declared.state.State.{State}
+use Rattle.converter.specs.declared.state.Retuned.{Retuned}
 use Rattle.converter.specs.declared.feeding.Fed.{Fed}
 use Rattle.converter.specs.Start.{isState, started, retuned}
 use Rattle.converter.specs.Feeding.{Ran, rule, Answer, answerOf, fedOf, outputsOf, over}
 use Rattle.converter.specs.Pass.{FedBy}
+use Rattle.converter.proofs.States.{retune-word}
 use Rattle.converter.proofs.Runs.{rule-ending, ending-sizes, rule-clips}
 use Rattle.converter.proofs.Feeds.{fed-rule}
-use Rattle.resampler.specs.Bytes.{samplesOf, pairsOf}
+use Rattle.resampler.specs.Bytes.{Bytes, bytesOf, samplesOf, pairsOf}
 use Rattle.resampler.specs.Feeding.{asPairs}
 use Rattle.resampler.specs.Image.{imageOf, savedOf, stateIn, isLong, isImage}
 use Rattle.resampler.specs.Host.{accepting, first, left, uncounted, hostStart, withState, hostRetune, isBuffer, feedLeft, counted, imageFed, outputFed, hostFeed}
 use Rattle.resampler.proofs.Samples.{samples-long}
+use Rattle.resampler.proofs.Images.{is-image, word-bytes}
 
 -- a refusal comes first, and leaves what was there
 refused-first : (n m : ℕ) → (n ≡ 0 → ⊥) → first n m ≡ n
@@ -48,6 +52,11 @@ module _ (image : List ℕ) (k : ℕ) (a : Setting) (p : ℕ) where
   pub start-done : started k a p .refusal ≡ 0 → isLong image ≡ true → hostStart image k a p ≡ left 0 begun
   start-done e h = start-by 0 (rw (e, h))
 
+  -- refused, it leaves the image as it was
+  pub refused-start : (hostStart image k a p .result ≡ 0 → ⊥) → hostStart image k a p .image ≡ image
+  unfolding hostStart
+  refused-start h = keeps _ begun image h
+
 -- ---- retune
 module _ (image : List ℕ) (a : Setting) where
   abbrev tuned : List ℕ
@@ -65,6 +74,17 @@ module _ (image : List ℕ) (a : Setting) where
 
   pub retune-done : isImage image ≡ true → retuned (stateIn image) a .refusal ≡ 0 → hostRetune image a ≡ left 0 tuned
   retune-done h e = retune-by 0 (rw h e)
+
+  pub refused-retune : (hostRetune image a .result ≡ 0 → ⊥) → hostRetune image a .image ≡ image
+  unfolding hostRetune
+  refused-retune h = keeps _ tuned image h
+
+  -- accepted, it replaces the eight bytes of the word and no others
+  pub retuned-bytes : (w : ℕ) → Bytes image → isImage image ≡ true → wordOf a ≡ word w → hostRetune image a ≡ left 0 (take 8 image ++ (bytesOf 8 w ++ drop 16 image))
+  retuned-bytes w b h e =
+      let r = retune-word (stateIn image) a w (is-image image h .2) e .0 in
+      let new = ap (λ (t : Retuned). imageOf (withState (savedOf image) (t .state))) r ∙ word-bytes image b h w in
+      retune-done h (ap (λ (t : Retuned). t .refusal) r) ∙ ap (left 0) new
 
 -- ---- feed
 pub buffer-is : (n : ℕ) → isBuffer n ≡ true → (n % 2 ≡ 0) × (n ≤ 65536)
@@ -87,6 +107,10 @@ module _ (image input output : List ℕ) where
 
   pub feed-done : isImage image ≡ true → fits ≡ true → hostFeed image input output ≡ feedLeft 0 (imageFed image input output) (outputFed image input output)
   feed-done h e = feed-by 0 (rw (h, e))
+
+  pub refused-feed : (hostFeed image input output .result ≡ 0 → ⊥) → (hostFeed image input output .image ≡ image) × (hostFeed image input output .output ≡ output)
+  unfolding hostFeed
+  refused-feed h = (keeps _ (imageFed image input output) image h, keeps _ (outputFed image input output) output h)
 
 -- ---- a feed over the samples of bytes
 module _ (input old : List ℕ) {left : List ℕ} {s : State} {f : Fed} (good : isState s ≡ true) (h : FedBy asPairs s (samplesOf input) old f left) where

@@ -1,5 +1,5 @@
--- Laws of images: encode and decode undo each other, and what refusal 5 asks of an image. Assumes nothing.
-use mathlib.Core.Path.{_≡_, sym, ap, subst, _∙_}
+-- Laws of images: encode and decode undo each other, what refusal 5 asks of an image, and which bytes a new word changes. Assumes nothing.
+use mathlib.Core.Path.{_≡_, refl, sym, ap, subst, _∙_}
 use mathlib.Core.Bool.{true, _&&_}
 use mathlib.Core.List.{List, [], _∷_, _++_, append-assoc, flatMap}
 use Prim.Native.Nat.{ℕ, zero, suc, _+_, _^_, _≤_, _<_}
@@ -10,11 +10,12 @@ use lib.IntN.{ℤ, pos}
 use lib.ListN.{length, take, drop, getD, length-append, length-drop, take-append-drop, drop-of-length-le}
 use lib.Seq.{length-take-le, take-all, take-at, drop-at, drop-drop, drop-cons}
 use Rattle.integers.specs.Table.{both}
-use Rattle.converter.specs.Start.{isState}
+use Rattle.converter.specs.Start.{isState, withWord}
 use Rattle.converter.specs.Pass.{windowFrom}
 use Rattle.resampler.specs.declared.image.Saved.{Saved}
 use Rattle.resampler.specs.Bytes.{Bytes, numberOf, numberAt, bytesOf, samplesOf, pairOf, pairsOf}
 use Rattle.resampler.specs.Image.{headOf, countsOf, imageOf, savedOf, stateIn, isLong, isImage}
+use Rattle.resampler.specs.Host.{withState}
 use Rattle.resampler.proofs.Numbers.{bytes-are, number-bytes, bytes-number, number-below}
 use Rattle.resampler.proofs.Samples.{Samples, samples-long, samples-are, samples-part, pairs-long, pairs-are, samples-pairs, pairs-samples}
 
@@ -152,6 +153,15 @@ image-saved bs b h =
     let counts = field 24 4 tt _ (field 28 4 tt _ (field 32 4 tt _ (field 36 4 tt [] none))) in
     let word = field 4 4 tt _ (field 8 8 tt _ (part-rest 16 8 bs _ _ pairs counts)) in
     field 0 1 tt _ (field 1 1 tt _ (part-rest 2 2 bs (bytesOf 2 0) _ zeros word))
+
+-- ---- a word replaced: its eight bytes change, and no others
+new-word : (v : Saved) (w : ℕ) → imageOf (withState v (withWord (v .state) w)) ≡ take 8 (imageOf v) ++ (bytesOf 8 w ++ drop 16 (imageOf v))
+unfolding imageOf headOf countsOf bytesOf
+new-word v w = refl
+
+pub word-bytes : (bs : List ℕ) → Bytes bs → isImage bs ≡ true → (w : ℕ)
+    → imageOf (withState (savedOf bs) (withWord (stateIn bs) w)) ≡ take 8 bs ++ (bytesOf 8 w ++ drop 16 bs)
+word-bytes bs b h w = new-word (savedOf bs) w ∙ ap (λ (cs : List ℕ). take 8 cs ++ (bytesOf 8 w ++ drop 16 cs)) (image-saved bs b h)
 
 -- ---- the window's four samples, one by one
 window-part : (xs : List ℤ) (b : ℕ) → b + 4 ≤ length xs → windowFrom xs b ≡ take 4 (drop b xs)

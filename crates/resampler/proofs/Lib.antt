@@ -5,3 +5,4 @@ pub mod Pairs
 pub mod Windows
 pub mod Hosts
 pub mod Calls
+pub mod Examples

@@ -25,8 +25,8 @@ fn or_zero(bytes: &[u8], i: usize) -> u8
     0
 }
 
-// An image's window and the four samples after it.
-pub fn join(image: &[u8], input: &[u8]) -> [u8; 16]
+// An image's window and the samples after it, where these are fewer than four.
+fn join_few(image: &[u8], input: &[u8]) -> [u8; 16]
     requires { ⌜ length (now image) ≡ 40 ⌝ }
     ensures { λ r. ⌜ r ≡ joinedBytes (now (image .entry)) (now (input .entry)) ⌝ }
 {
@@ -55,6 +55,35 @@ pub fn join(image: &[u8], input: &[u8]) -> [u8; 16]
         f,
         g,
         h,
+    ]
+}
+
+// An image's window and the four samples after it. Eight bytes of the input that lie there are copied at once: a sample that is read just after its bytes were stored one by one has to
+// wait for them.
+pub fn join(image: &[u8], input: &[u8]) -> [u8; 16]
+    requires { ⌜ length (now image) ≡ 40 ⌝ }
+    ensures { λ r. ⌜ r ≡ joinedBytes (now (image .entry)) (now (input .entry)) ⌝ }
+{
+    if input.len() < 8 {
+        return join_few(image, input);
+    }
+    [
+        image[16],
+        image[17],
+        image[18],
+        image[19],
+        image[20],
+        image[21],
+        image[22],
+        image[23],
+        input[0],
+        input[1],
+        input[2],
+        input[3],
+        input[4],
+        input[5],
+        input[6],
+        input[7],
     ]
 }
 

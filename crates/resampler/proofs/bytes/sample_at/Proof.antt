@@ -31,7 +31,9 @@ cast-high : tie.Need-cast-high
 cast-high c = omega (arith, c .shared-slice-known3 .given (c .before .before .before .args .i * 2 + 1))
 
 mul-signed : tie.Need-mul-signed
-mul-signed c = omega (arith, c .shared-slice-known3 .given (c .before .before .before .args .i * 2 + 1))
+mul-signed c =
+    let i = c .before .before .before .args .i in
+    omega (arith, c .shared-slice-known3 .given (i * 2), c .shared-slice-known3 .given (i * 2 + 1))
 
 add-signed : tie.Need-add-signed
 add-signed c =

@@ -25,16 +25,16 @@ tuned c = c .retune .ensures ∙ ap (λ (v : Saved). retuned (v .state) (c .befo
 returns : tie.Need-returns
 returns c = sym (retune-bad _ _ (sym (c .before .is-image .ensures) ∙ not-true _ (c .if1 .taken)))
 
-returns-2 : tie.Need-returns-2
-returns-2 c =
-    let r = c .before .before .before in
-    sym (retune-refused _ _ (r .retune .result .refusal) (accepted (r .before .before .before .before)) (ap (λ (r : Retuned). r .refusal) (sym (tuned r))) (c .before .if2 .taken))
-
 returns-3 : tie.Need-returns-3
 returns-3 c =
     let r = c .before .before .before .before .before .before .before in
     ap (left 0) (c .before .before .encode .ensures ∙ (λ i. imageOf (withState (r .before .before .decode .ensures i) (tuned r i .state))))
     ∙ sym (retune-done _ _ (accepted (r .before .before .before .before)) (ap (λ (r : Retuned). r .refusal) (sym (tuned r)) ∙ c .before .before .before .before .before .if2 .left))
+
+returns-2 : tie.Need-returns-2
+returns-2 c =
+    let r = c .before .before .before in
+    sym (retune-refused _ _ (r .retune .result .refusal) (accepted (r .before .before .before .before)) (ap (λ (r : Retuned). r .refusal) (sym (tuned r))) (c .before .if2 .taken))
 
 decode-requires : tie.Need-decode-requires
 decode-requires c κs = is-image _ (accepted (c .before)) .0

@@ -26,6 +26,15 @@ returns c = rw (← c .before .is-long .ensures, not-true (c .before .is-long .r
 number-at-requires : tie.Need-number-at-requires
 number-at-requires c κs = omega (arith, long c)
 
+returns-3 : tie.Need-returns-3
+unfolding isImage
+returns-3 c =
+    let d = c .before .before in
+    let l = d .before .before .before in
+    let bs = now (l .before .before .before .args .image) in
+    rw (eq-eqb (length bs) 40 (long l), eq-eqb (numberAt 2 2 bs) 0 (sym (d .before .before .number-at .ensures .0) ∙ d .before .if2 .left))
+    (c .is-state .ensures ∙ ap (λ (v : Saved). isState (v .state)) (d .decode .ensures))
+
 returns-2 : tie.Need-returns-2
 unfolding isImage
 returns-2 c =
@@ -38,15 +47,6 @@ decode-requires c κs = long (c .before .before)
 
 is-state-requires : tie.Need-is-state-requires
 is-state-requires c κs = search needs
-
-returns-3 : tie.Need-returns-3
-unfolding isImage
-returns-3 c =
-    let d = c .before .before in
-    let l = d .before .before .before in
-    let bs = now (l .before .before .before .args .image) in
-    rw (eq-eqb (length bs) 40 (long l), eq-eqb (numberAt 2 2 bs) 0 (sym (d .before .before .number-at .ensures .0) ∙ d .before .if2 .left))
-    (c .is-state .ensures ∙ ap (λ (v : Saved). isState (v .state)) (d .decode .ensures))
 
 pub is-image-spec : {M : Type 1} → statement M
 is-image-spec = tie.close (tie.spec is-long-requires returns number-at-requires returns-2 decode-requires is-state-requires returns-3)

@@ -1,10 +1,10 @@
--- `resampler::feeding::join` meets its contract. Assumes nothing.
+-- `resampler::feeding::join_few` meets its contract. Assumes nothing.
 use borrow.Author.Needs.{needs}
 use mathlib.Core.List.{[], _∷_}
 use lib.ListN.{getD}
 use denote.Ref.{now}
-use Rattle.resampler.proofs.feeding.join.Statement.{statement}
-use Rattle.resampler.proofs.feeding.join.Tie as tie
+use Rattle.resampler.proofs.feeding.join_few.Statement.{statement}
+use Rattle.resampler.proofs.feeding.join_few.Tie as tie
 
 returns : tie.Need-returns
 returns c =
@@ -68,8 +68,8 @@ shared-slice-read-t24 c = search needs
 shared-slice-read-t26 : tie.Need-shared-slice-read-t26
 shared-slice-read-t26 c = search needs
 
-pub join-spec : {M : Type 1} → statement M
-join-spec =
+pub join-few-spec : {M : Type 1} → statement M
+join-few-spec =
     tie.close
     (tie.spec
     or-zero-requires
