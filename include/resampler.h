@@ -15,14 +15,15 @@
    ends.
 
    The library has no state of its own and allocates nothing. Several threads may call it at once, each on
-   images and output buffers of its own.
+   images and output buffers of its own. What the calls do is proved; how arguments reach them is the compilers'
+   business, and the small functions at the end of this file are plain C.
 
-   The guarantee. Take any list of feeds and retunes on one image from an accepted start, refused calls
-   included, where nothing else changes the image in between. Each accepted feed takes as many samples, writes
-   as many outputs and ends as in the paper's run of document 01; and output k has that run's basepoint, and
-   lies at most 1/2 + D/K from that run's value, which is exact at the full 32-bit fraction and held to 16 bits.
-   D is the largest jump between neighbouring samples among those that the kernel uses there, zeros before the
-   first included; K is 16384, 16384, 8192 or 12288 by kernel. */
+   The guarantee. Take any list of feeds and retunes on one image, lent whole, from an accepted start, refused
+   calls included, where nothing else changes the image in between. Refusal 5 does not occur in it. Each accepted
+   feed takes as many samples, writes as many outputs and ends as in the paper's run of document 01; and output k
+   has that run's basepoint, and lies at most 1/2 + D/K from that run's value, which is exact at the full 32-bit
+   fraction and held to 16 bits. D is the largest jump between neighbouring samples among those that the kernel
+   uses there, zeros before the first included; K is 16384, 16384, 8192 or 12288 by kernel. */
 #ifndef RESAMPLER_H
 #define RESAMPLER_H
 
@@ -34,16 +35,16 @@ extern "C" {
 #endif
 
 /* Kernels. The basepoint b of an output is the sample at or before its position; for the three-point kernel it is
-   the nearest one, halves upward. The kernel is evaluated at the fraction past b, cut down to 14 bits; the value is
-   rounded once, halves upward, and held to -32768..32767. A held output is a clip. Samples before the first are
-   zero. R is how far past b a kernel reads. */
+   the nearest one, halves upward. The kernel is evaluated at the fraction from b (which may lie below
+   zero for the three-point kernel), cut down to 14 bits; the value is rounded once, halves upward, and held to
+   -32768..32767. A held output is a clip. Samples before the first are zero. R is how far past b a kernel reads. */
 #define RESAMPLER_LINEAR 0      /* R = 1; samples b and b + 1 */
 #define RESAMPLER_THREE_POINT 1 /* R = 1; samples b - 1 to b + 1 */
 #define RESAMPLER_PARABOLIC 2   /* R = 2; samples b - 1 to b + 2 */
 #define RESAMPLER_CUBIC 3       /* R = 2; samples b - 1 to b + 2 */
 
 /* A word is input rate / output rate times 2^32: the way from one output to the next, in 2^-32 of a sample. It
-   is 1 to 2^34, so that there are at most 2^32 outputs to a sample, and at least one to four samples. */
+   is 1 to 2^34, so that there are at most 2^32 outputs to a sample, and at least one output to four samples. */
 #define RESAMPLER_WORD_ONE UINT64_C(0x100000000)     /* 2^32, equal rates */
 #define RESAMPLER_LARGEST_WORD UINT64_C(0x400000000) /* 2^34 */
 

@@ -25,8 +25,8 @@ use Rattle.converter.proofs.Feeds.{fed-rule}
 use Rattle.converter.proofs.Third.{third}
 use Rattle.resampler.specs.declared.image.Saved.{Saved}
 use Rattle.resampler.specs.Bytes.{Bytes, numberOf, numberAt, bytesOf, samplesOf, pairsOf}
-use Rattle.resampler.specs.Image.{headOf, imageOf, savedOf, stateIn, isLong, isImage}
-use Rattle.resampler.specs.Host.{first, withState, uncounted, hostStart, hostRetune, isBuffer, counted, imageFed, outputFed, hostFeed}
+use Rattle.resampler.specs.Image.{frontOf, imageOf, savedOf, stateIn, isForty, isImage}
+use Rattle.resampler.specs.Host.{firstRefusal, withState, uncounted, hostStart, hostRetune, isBuffer, savedBy, imageFed, outputFed, hostFeed}
 use Rattle.resampler.specs.Calls.{HostCall, feed, retune, Meets, after, SeenOn, fedIn, callOf, callsOf, OnTheState, HostThird}
 use Rattle.resampler.proofs.Samples.{Samples, samples-long, samples-are, samples-back, samples-append, pairs-long, samples-pairs}
 use Rattle.resampler.proofs.Images.{Fits, image-long, image-bytes, saved-image, saved-fits, is-image, image-is}
@@ -40,7 +40,7 @@ record Good (bs : List ℕ) : Type 0 where
 
 -- "two zero bytes"
 reserved : (v : Saved) → numberAt 2 2 (imageOf v) ≡ 0
-unfolding imageOf headOf bytesOf numberOf
+unfolding imageOf frontOf bytesOf numberOf
 reserved v = refl
 
 -- what is written as an image is accepted
@@ -91,7 +91,7 @@ module _ {image : List ℕ} (g : Good image) (input old : List ℕ) (b : Bytes i
   run-ending = rule-ending (samplesOf input) (length old / 2) (stateIn image)
 
   -- all of it has room in an image
-  run-fits : Fits (counted (accepted (runOf image input old)))
+  run-fits : Fits (savedBy (accepted (runOf image input old)))
   run-fits =
       let z = run-sound .0 in
       let n = ending-sizes run-ending in
@@ -110,11 +110,11 @@ module _ {image : List ℕ} (g : Good image) (input old : List ℕ) (b : Bytes i
         end = omega (arith, end-back run-ending .1);
       }
 
-  image-fed : imageFed image input old ≡ imageOf (counted (accepted (runOf image input old)))
+  image-fed : imageFed image input old ≡ imageOf (savedBy (accepted (runOf image input old)))
   unfolding imageFed
   image-fed = rw (fed-is .0)
 
-  saved-fed : savedOf (imageFed image input old) ≡ counted (accepted (runOf image input old))
+  saved-fed : savedOf (imageFed image input old) ≡ savedBy (accepted (runOf image input old))
   saved-fed = ap savedOf image-fed ∙ saved-image _ run-fits
 
   fed-good : Good (imageFed image input old)
@@ -146,8 +146,8 @@ step-feed {image} g input old b = go (isBuffer (length input) && isBuffer (lengt
         let t = both (isBuffer (length input)) (isBuffer (length old)) e in
         let i = buffer-is (length input) (t .0) .1 in
         let o = buffer-is (length old) (t .1) .1 in
-        rw (feed-done image input old (g .image) e) (record { good = fed-good g input old b i o; goes-on = λ ds h. (fed-right g input old b i o, h) })
-    go false e = rw (feed-odd image input old (g .image) e) (record { good = g; goes-on = λ ds h. h })
+        rw (feed-done image input old (g .image) e) (record { good = fed-good g input old b i o; goes-on = λ ds h. rw e (fed-right g input old b i o, h) })
+    go false e = rw (feed-odd image input old (g .image) e) (record { good = g; goes-on = λ ds h. rw e h })
 
 -- a retune: a refusal leaves the state
 word-fits : {v : Saved} → Fits v → (w : ℕ) → w ≤ 2 ^ 34 → Fits (withState v (withWord (v .state) w))
@@ -193,14 +193,14 @@ pub on-the-state : OnTheState
 on-the-state image b h cs = calls-good cs image (record { bytes = b; image = h })
 
 -- ---- from an accepted start
-first-zero : (n m : ℕ) → first n m ≡ 0 → n ≡ 0
+first-zero : (n m : ℕ) → firstRefusal n m ≡ 0 → n ≡ 0
 first-zero zero m z = refl
 first-zero (suc n) m z = rw (ne-eqb (suc n) 0 (λ e. omega (arith, e))) at z
 
 start-left : (image : List ℕ) (k : ℕ) (a : Setting) (P : ℕ) → hostStart image k a P .result ≡ 0
     → (started k a P .refusal ≡ 0) × (hostStart image k a P .image ≡ imageOf (uncounted (started k a P .state)))
 unfolding hostStart
-start-left image k a P z = (first-zero (started k a P .refusal) (cond (isLong image) 0 5) z, rw z)
+start-left image k a P z = (first-zero (started k a P .refusal) (cond (isForty image) 0 5) z, rw z)
 
 start-fits : (k : ℕ) (a : Setting) (P : ℕ) → P < 2 ^ 32 → Accepted k a P → Fits (uncounted (started k a P .state))
 unfolding Samples

@@ -18,8 +18,8 @@ use Rattle.converter.specs.Start.{isKernel, isState, lastRead, neededAt, starte
 use Rattle.converter.specs.Feeding.{advanced, taking, rule, fedOf, outputsOf}
 use Rattle.resampler.specs.declared.image.Saved.{Saved}
 use Rattle.resampler.specs.Bytes.{numberOf, bytesOf, samplesOf, pairsOf}
-use Rattle.resampler.specs.Image.{headOf, countsOf, imageOf, savedOf, isImage}
-use Rattle.resampler.specs.Host.{left, hostStart, isBuffer, feedLeft, imageFed, outputFed, hostFeed}
+use Rattle.resampler.specs.Image.{frontOf, countsOf, imageOf, savedOf, isImage}
+use Rattle.resampler.specs.Host.{reply, hostStart, isBuffer, feedReply, imageFed, outputFed, hostFeed}
 use Rattle.resampler.proofs.Hosts.{start-refused, start-short, start-done, feed-bad, feed-odd}
 
 -- ---- the layout: byte i of the image is i + 1, but for the two zero bytes and the last byte of the window, which makes its sample negative
@@ -38,7 +38,7 @@ forty =
     ∷ 38 ∷ 39 ∷ 40 ∷ []
 
 pub layout : (imageOf numbered ≡ forty) × (savedOf forty ≡ numbered)
-unfolding numberOf bytesOf samplesOf flatMap headOf countsOf imageOf savedOf
+unfolding numberOf bytesOf samplesOf flatMap frontOf countsOf imageOf savedOf
 layout = (refl, refl)
 
 -- ---- samples
@@ -58,17 +58,17 @@ abbrev zeros : ℕ → List ℕ → List ℕ
 zeros n bs = replicate n 0 ++ bs
 
 -- kernel 1 at 3/4 with a quarter word: needed is b + R + 1 = 3; the register, the word; and the window and the counts are zeros
-pub first-image : (image : List ℕ) → length image ≡ 40 → hostStart image 1 (Word (2 ^ 30)) 0xC0000000 ≡ left 0 (1 ∷ 3 ∷ 0 ∷ 0 ∷ 0 ∷ 0 ∷ 0 ∷ 0xC0 ∷ 0 ∷ 0 ∷ 0 ∷ 0x40 ∷ zeros 28 [])
-unfolding bytesOf flatMap headOf countsOf imageOf isWord inRange basepoint kernelOf isKernel lastRead neededAt started
+pub first-image : (image : List ℕ) → length image ≡ 40 → hostStart image 1 (Word (2 ^ 30)) 0xC0000000 ≡ reply 0 (1 ∷ 3 ∷ 0 ∷ 0 ∷ 0 ∷ 0 ∷ 0 ∷ 0xC0 ∷ 0 ∷ 0 ∷ 0 ∷ 0x40 ∷ zeros 28 [])
+unfolding bytesOf flatMap frontOf countsOf imageOf isWord inRange basepoint kernelOf isKernel lastRead neededAt started
 first-image image h = start-done image 1 (Word (2 ^ 30)) 0xC0000000 refl (eq-eqb (length image) 40 h)
 
 -- an image of 39 bytes
-pub short-image : (image : List ℕ) → length image ≡ 39 → hostStart image 1 (Word (2 ^ 30)) 0xC0000000 ≡ left 5 image
+pub short-image : (image : List ℕ) → length image ≡ 39 → hostStart image 1 (Word (2 ^ 30)) 0xC0000000 ≡ reply 5 image
 unfolding isWord inRange isKernel started
 short-image image h = start-short image 1 (Word (2 ^ 30)) 0xC0000000 refl (rw h)
 
 -- kernel 4 with an image of any length, so that 1 comes before 5
-pub fourth-kernel : (image : List ℕ) (a : Setting) (p : ℕ) → hostStart image 4 a p ≡ left 1 image
+pub fourth-kernel : (image : List ℕ) (a : Setting) (p : ℕ) → hostStart image 4 a p ≡ reply 1 image
 unfolding isKernel started
 fourth-kernel image a p = start-refused image 4 a p 1 refl (λ e. omega arith)
 
@@ -77,22 +77,22 @@ fourth-kernel image a p = start-refused image 4 a p 1 refl (λ e. omega arith)
 abbrev begun : List ℕ
 begun = 0 ∷ 2 ∷ zeros 9 (0x80 ∷ zeros 28 [])
 
-pub begins : (image : List ℕ) → length image ≡ 40 → hostStart image 0 (Word (2 ^ 31)) 0 ≡ left 0 begun
-unfolding bytesOf flatMap headOf countsOf imageOf isWord inRange basepoint kernelOf isKernel lastRead neededAt started
+pub begins : (image : List ℕ) → length image ≡ 40 → hostStart image 0 (Word (2 ^ 31)) 0 ≡ reply 0 begun
+unfolding bytesOf flatMap frontOf countsOf imageOf isWord inRange basepoint kernelOf isKernel lastRead neededAt started
 begins image h = start-done image 0 (Word (2 ^ 31)) 0 refl (eq-eqb (length image) 40 h)
 
 -- "Kernel 0, half word, 0, 100, 40: 0, 50, 100, 70." One sample is needed next, at the register 0; the newest four samples; 3 taken, 4 written, no clips, HUNGRY
-pub half-word : hostFeed begun (0 ∷ 0 ∷ 100 ∷ 0 ∷ 40 ∷ 0 ∷ []) (replicate 10 7) ≡ feedLeft 0
+pub half-word : hostFeed begun (0 ∷ 0 ∷ 100 ∷ 0 ∷ 40 ∷ 0 ∷ []) (replicate 10 7) ≡ feedReply 0
     (0 ∷ 1 ∷ zeros 9 (0x80 ∷ zeros 8 (100 ∷ 0 ∷ 40 ∷ 0 ∷ 3 ∷ 0 ∷ 0 ∷ 0 ∷ 4 ∷ zeros 11 [])))
     (0 ∷ 0 ∷ 50 ∷ 0 ∷ 100 ∷ 0 ∷ 70 ∷ 0 ∷ 7 ∷ 7 ∷ [])
-unfolding numberOf bytesOf samplesOf flatMap headOf countsOf imageOf savedOf isImage isWord basepoint fraction fourteenBits registerOf stepped carryOf advanceOf kernelOf column polynomial numerator unit nearestWhole rounded held output outside clips filterFraction windowAt outputOf clipOf isKernel isState advanced taking rule fedOf outputsOf imageFed outputFed hostFeed
+unfolding numberOf bytesOf samplesOf flatMap frontOf countsOf imageOf savedOf isImage isWord basepoint fraction fourteenBits registerOf stepped carryOf advanceOf kernelOf column polynomial numerator unit nearestWhole rounded held output outside clips filterFraction windowAt outputOf clipOf isKernel isState advanced taking rule fedOf outputsOf imageFed outputFed hostFeed
 half-word = refl
 
 -- with space for one output it ends FULL, before the third sample: none is needed, at the register of 1/2; 2 taken, 1 written
-pub one-output : hostFeed begun (0 ∷ 0 ∷ 100 ∷ 0 ∷ 40 ∷ 0 ∷ []) (7 ∷ 7 ∷ []) ≡ feedLeft 0
+pub one-output : hostFeed begun (0 ∷ 0 ∷ 100 ∷ 0 ∷ 40 ∷ 0 ∷ []) (7 ∷ 7 ∷ []) ≡ feedReply 0
     (0 ∷ 0 ∷ zeros 5 (0x80 ∷ 0 ∷ 0 ∷ 0 ∷ 0x80 ∷ zeros 10 (100 ∷ 0 ∷ 2 ∷ 0 ∷ 0 ∷ 0 ∷ 1 ∷ zeros 7 (1 ∷ 0 ∷ 0 ∷ 0 ∷ []))))
     (0 ∷ 0 ∷ [])
-unfolding numberOf bytesOf samplesOf flatMap headOf countsOf imageOf savedOf isImage isWord basepoint fraction fourteenBits registerOf stepped carryOf advanceOf kernelOf column polynomial numerator unit nearestWhole rounded held output outside clips filterFraction windowAt outputOf clipOf isKernel isState advanced taking rule fedOf outputsOf imageFed outputFed hostFeed
+unfolding numberOf bytesOf samplesOf flatMap frontOf countsOf imageOf savedOf isImage isWord basepoint fraction fourteenBits registerOf stepped carryOf advanceOf kernelOf column polynomial numerator unit nearestWhole rounded held output outside clips filterFraction windowAt outputOf clipOf isKernel isState advanced taking rule fedOf outputsOf imageFed outputFed hostFeed
 one-output = refl
 
 -- ---- refusals of a feed
@@ -100,16 +100,16 @@ one-output = refl
 abbrev reserved : List ℕ
 reserved = 0 ∷ 2 ∷ 0 ∷ 1 ∷ zeros 7 (0x80 ∷ zeros 28 [])
 
-pub byte-three : (input output : List ℕ) → hostFeed reserved input output ≡ feedLeft 5 reserved output
+pub byte-three : (input output : List ℕ) → hostFeed reserved input output ≡ feedReply 5 reserved output
 unfolding numberOf isImage
 byte-three input output = feed-bad reserved input output refl
 
 -- an input of odd length, and an output that is too long: 12
-pub odd-input : (output : List ℕ) → hostFeed begun (1 ∷ 2 ∷ 3 ∷ []) output ≡ feedLeft 12 begun output
+pub odd-input : (output : List ℕ) → hostFeed begun (1 ∷ 2 ∷ 3 ∷ []) output ≡ feedReply 12 begun output
 unfolding numberOf savedOf isImage isWord isKernel isState
 odd-input output = feed-odd begun (1 ∷ 2 ∷ 3 ∷ []) output refl refl
 
-pub long-output : (output : List ℕ) → length output ≡ 65538 → hostFeed begun [] output ≡ feedLeft 12 begun output
+pub long-output : (output : List ℕ) → length output ≡ 65538 → hostFeed begun [] output ≡ feedReply 12 begun output
 unfolding numberOf savedOf isImage isWord isKernel isState
 long-output output h = feed-odd begun [] output refl (rw h)
 

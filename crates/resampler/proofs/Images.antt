@@ -14,7 +14,7 @@ use Rattle.converter.specs.Start.{isState, withWord}
 use Rattle.converter.specs.Pass.{windowFrom}
 use Rattle.resampler.specs.declared.image.Saved.{Saved}
 use Rattle.resampler.specs.Bytes.{Bytes, numberOf, numberAt, bytesOf, samplesOf, pairOf, pairsOf}
-use Rattle.resampler.specs.Image.{headOf, countsOf, imageOf, savedOf, stateIn, isLong, isImage}
+use Rattle.resampler.specs.Image.{frontOf, countsOf, imageOf, savedOf, stateIn, isForty, isImage}
 use Rattle.resampler.specs.Host.{withState}
 use Rattle.resampler.proofs.Numbers.{bytes-are, number-bytes, bytes-number, number-below}
 use Rattle.resampler.proofs.Samples.{Samples, samples-long, samples-are, samples-part, pairs-long, pairs-are, samples-pairs, pairs-samples}
@@ -36,8 +36,8 @@ pub record Fits (v : Saved) : Type 0 where
 pub is-image : (bs : List ℕ) → isImage bs ≡ true → (length bs ≡ 40) × (numberAt 2 2 bs ≡ 0) × (isState (stateIn bs) ≡ true)
 unfolding isImage
 is-image bs h =
-    let a = both (isLong bs && eqb (numberAt 2 2 bs) 0) (isState (stateIn bs)) h in
-    let b = both (isLong bs) (eqb (numberAt 2 2 bs) 0) (a .0) in
+    let a = both (isForty bs && eqb (numberAt 2 2 bs) 0) (isState (stateIn bs)) h in
+    let b = both (isForty bs) (eqb (numberAt 2 2 bs) 0) (a .0) in
     (eqb-true (length bs) 40 (b .0), eqb-true (numberAt 2 2 bs) 0 (b .1), a .1)
 
 pub image-is : (bs : List ℕ) → length bs ≡ 40 → numberAt 2 2 bs ≡ 0 → isState (stateIn bs) ≡ true → isImage bs ≡ true
@@ -85,11 +85,11 @@ pairs-eight : (w : List ℤ) → length w ≡ 4 → length (pairsOf w) ≡ 8
 pairs-eight w h = omega (arith, pairs-long w, h)
 
 pub image-long : (v : Saved) → length (v .state .window) ≡ 4 → length (imageOf v) ≡ 40
-unfolding imageOf headOf countsOf bytesOf
+unfolding imageOf frontOf countsOf bytesOf
 image-long v h = let w = v .state .window in omega (arith, length-append (pairsOf w) (countsOf v), pairs-eight w h)
 
 pub image-bytes : (v : Saved) → Bytes (imageOf v)
-unfolding imageOf headOf countsOf
+unfolding imageOf frontOf countsOf
 image-bytes v =
     let s = v .state in
     let word = bytes-append _ _ (bytes-are 4 (s .register)) (bytes-are 8 (s .word)) in
@@ -100,7 +100,7 @@ image-bytes v =
 
 -- ---- each undoes the other
 pub saved-image : (v : Saved) → Fits v → savedOf (imageOf v) ≡ v
-unfolding imageOf headOf countsOf bytesOf savedOf
+unfolding imageOf frontOf countsOf bytesOf savedOf
 saved-image v h =
     let s = v .state in
     let w = s .window in
@@ -142,7 +142,7 @@ part-rest : (a n : ℕ) (bs cs rest : List ℕ) → cs ≡ take n (drop a bs) �
 part-rest a n bs cs rest e f = rw (e, f, ← drop-drop n a bs) (take-append-drop n (drop a bs))
 
 pub image-saved : (bs : List ℕ) → Bytes bs → isImage bs ≡ true → imageOf (savedOf bs) ≡ bs
-unfolding imageOf headOf countsOf bytesOf savedOf
+unfolding imageOf frontOf countsOf bytesOf savedOf
 image-saved bs b h =
     let i = is-image bs h in
     let zeros : bytesOf 2 0 ≡ take 2 (drop 2 bs) = subst (λ (x : ℕ). bytesOf 2 x ≡ take 2 (drop 2 bs)) (i .1) (part-bytes bs b (i .0) 2 2 tt) in
@@ -156,7 +156,7 @@ image-saved bs b h =
 
 -- ---- a word replaced: its eight bytes change, and no others
 new-word : (v : Saved) (w : ℕ) → imageOf (withState v (withWord (v .state) w)) ≡ take 8 (imageOf v) ++ (bytesOf 8 w ++ drop 16 (imageOf v))
-unfolding imageOf headOf countsOf bytesOf
+unfolding imageOf frontOf countsOf bytesOf
 new-word v w = refl
 
 pub word-bytes : (bs : List ℕ) → Bytes bs → isImage bs ≡ true → (w : ℕ)

@@ -6,3 +6,4 @@ pub mod Windows
 pub mod Hosts
 pub mod Calls
 pub mod Examples
+pub mod HostTraces

@@ -1,10 +1,11 @@
 -- Demand 3 for the host: a list of host calls on one image does what the list of calls on the state does, and so agrees with the paper's run. Definitions only; the proofs are
 -- `on-the-state` and `host-third` in proofs/Calls.antt.
 use mathlib.Core.Path.{_≡_}
-use mathlib.Core.Bool.{true, cond}
+use mathlib.Core.Bool.{true, cond, _&&_}
 use mathlib.Core.List.{List, [], _∷_, flatMap}
 use Prim.Native.Nat.{ℕ, _^_, _<_}
 use lib.Dec.{eqb}
+use lib.ListN.{length}
 use Rattle.oscillator.specs.declared.settings.Setting.{Setting}
 use Rattle.converter.specs.declared.feeding.Fed.{Fed}
 use Rattle.converter.specs.declared.feeding.End.the-variants as end
@@ -14,14 +15,14 @@ use Rattle.converter.specs.Demand.{Call, Seen, Agrees}
 use Rattle.converter.specs.Demand as call
 use Rattle.resampler.specs.Bytes.{Bytes, samplesOf}
 use Rattle.resampler.specs.Image.{savedOf, stateIn, isImage}
-use Rattle.resampler.specs.Host.{Left, FeedLeft, hostStart, hostRetune, hostFeed}
+use Rattle.resampler.specs.Host.{Reply, FeedReply, isBuffer, hostStart, hostRetune, hostFeed}
 
--- A host call on an image: the input, what the output buffer held, and what the feed left; or the setting, and what the retune left.
+-- A host call on an image: the input, what the output buffer held, and what the feed reply; or the setting, and what the retune reply.
 pub data HostCall : Type 0 where
-  feed : (input old : List ℕ) → FeedLeft → HostCall
-  retune : Setting → Left → HostCall
+  feed : (input old : List ℕ) → FeedReply → HostCall
+  retune : Setting → Reply → HostCall
 
--- what the function that is called promises of the call, lent the image (the input is one of bytes); and the image that it leaves
+-- what the contract of the function that is called says of the call, lent the image (that the input's entries are bytes is the language's own fact); and the image that it leaves
 abbrev pub Meets : List ℕ → HostCall → Type 0
 Meets image (feed input old l) = Bytes input × (l ≡ hostFeed image input old)
 Meets image (retune a l) = l ≡ hostRetune image a
@@ -30,7 +31,7 @@ abbrev pub after : HostCall → List ℕ
 after (feed input old l) = l .image
 after (retune a l) = l .image
 
--- the calls cs as they can be seen from the image on: each is lent the image that the call before it left, and nothing else changes it in between
+-- the calls cs as they can be seen from the image on: each is lent the image that the call before it reply, and nothing else changes it in between
 unfoldable pub SeenOn : List ℕ → List HostCall → Type 0
 SeenOn image [] = Unit {0}
 SeenOn image (c ∷ cs) = Meets image c × SeenOn (after c) cs
@@ -40,9 +41,9 @@ SeenOn image (c ∷ cs) = Meets image c × SeenOn (after c) cs
 abbrev pub fedIn : ℕ → List ℕ → Fed
 fedIn n image = let v = savedOf image in record { state = v .state; taken = v .taken; written = v .written; clips = v .clips; end = cond (eqb (v .end) FULL) end.Full end.Hungry; refusal = n }
 
--- the call on the state that a host call makes, samples in the place of their bytes. A feed whose buffers are refused (12) makes none
+-- the call on the state that a host call makes, samples in the place of their bytes. A feed with a buffer that refusal 12 speaks of makes none; 5 does not occur, which `Agrees` concludes
 abbrev pub callOf : HostCall → List Call
-callOf (feed input old l) = cond (eqb (l .result) 12) [] (call.feed (samplesOf input) (samplesOf old) (fedIn (l .result) (l .image)) (samplesOf (l .output)) ∷ [])
+callOf (feed input old l) = cond (isBuffer (length input) && isBuffer (length old)) (call.feed (samplesOf input) (samplesOf old) (fedIn (l .result) (l .image)) (samplesOf (l .output)) ∷ []) []
 callOf (retune a l) = call.retune a (record { state = stateIn (l .image); refusal = l .result }) ∷ []
 
 abbrev pub callsOf : List HostCall → List Call

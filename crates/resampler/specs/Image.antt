@@ -1,5 +1,5 @@
 -- The saved state (document 01, "Saved state for the C host"): "40 bytes, little-endian: kernel, needed count, two zero bytes, register (4), word (8), window (four of 2), then taken,
--- written, clips, and 0 for HUNGRY or 1 for FULL (4 each; anything on entry)". Definitions only; the laws that `imageOf` and `savedOf` undo each other stand in proofs/Images.antt.
+-- written, clips, and 0 for HUNGRY or 1 for FULL (4 each; anything on entry)". Definitions only; `imageOf` and `savedOf` undo each other by the laws `saved-image` and `image-saved`.
 use mathlib.Core.Bool.{Bool, _&&_}
 use mathlib.Core.List.{List, _++_}
 use Prim.Native.Nat.{ℕ}
@@ -12,8 +12,8 @@ use Rattle.resampler.specs.Bytes.{numberAt, bytesOf, samplesOf, pairsOf}
 
 -- ---- encode
 -- "kernel, needed count, two zero bytes, register (4), word (8)"
-unfoldable pub headOf : State → List ℕ
-headOf s = bytesOf 1 (s .kernel) ++ (bytesOf 1 (s .needed) ++ (bytesOf 2 0 ++ (bytesOf 4 (s .register) ++ bytesOf 8 (s .word))))
+unfoldable pub frontOf : State → List ℕ
+frontOf s = bytesOf 1 (s .kernel) ++ (bytesOf 1 (s .needed) ++ (bytesOf 2 0 ++ (bytesOf 4 (s .register) ++ bytesOf 8 (s .word))))
 
 -- "taken, written, clips, and 0 for HUNGRY or 1 for FULL (4 each ..)"
 unfoldable pub countsOf : Saved → List ℕ
@@ -21,7 +21,7 @@ countsOf v = bytesOf 4 (v .taken) ++ (bytesOf 4 (v .written) ++ (bytesOf 4 (v .c
 
 -- the whole image, "window (four of 2)" between them
 unfoldable pub imageOf : Saved → List ℕ
-imageOf v = headOf (v .state) ++ (pairsOf (v .state .window) ++ countsOf v)
+imageOf v = frontOf (v .state) ++ (pairsOf (v .state .window) ++ countsOf v)
 
 -- ---- decode
 unfoldable pub savedOf : List ℕ → Saved
@@ -38,9 +38,10 @@ stateIn bs = savedOf bs .state
 
 -- ---- refusal 5
 -- "image not 40 bytes"
-abbrev pub isLong : List ℕ → Bool
-isLong bs = eqb (length bs) 40
+abbrev pub isForty : List ℕ → Bool
+isForty bs = eqb (length bs) 40
 
--- "or bytes 2, 3 not zero", or a "state with kernel above 3, word outside 1..2^34 or needed count above 4". Bytes 24 to 39 are "anything on entry"
+-- none of refusal 5's reasons: not 40 bytes, "or bytes 2, 3 not zero", or a "state with kernel above 3, word outside 1..2^34 or needed count above 4". Bytes 24 to 39 are "anything
+-- on entry"
 unfoldable pub isImage : List ℕ → Bool
-isImage bs = isLong bs && eqb (numberAt 2 2 bs) 0 && isState (stateIn bs)
+isImage bs = isForty bs && eqb (numberAt 2 2 bs) 0 && isState (stateIn bs)

@@ -4,8 +4,8 @@ use crate::feeding::join;
 use crate::image::Saved;
 use crate::image::decode;
 use crate::image::encode;
+use crate::image::is_forty;
 use crate::image::is_image;
-use crate::image::is_long;
 use converter::End;
 use oscillator::Setting;
 ghost use mathlib.Core.Path.{_≡_};
@@ -15,7 +15,7 @@ ghost use lib.ListN.{length};
 ghost use Rattle.converter.specs.Feeding.{endNumber};
 ghost use Rattle.oscillator.specs.declared.settings.Setting.the-variants as setting;
 ghost use Rattle.resampler.specs.Image.{isImage};
-ghost use Rattle.resampler.specs.Host.{isBuffer, left, feedLeft, hostStart, hostRetune, hostFeed, imageFed, outputFed};
+ghost use Rattle.resampler.specs.Host.{isBuffer, reply, feedReply, hostStart, hostRetune, hostFeed, imageFed, outputFed};
 
 // What refusal 12 asks of a buffer's length.
 fn is_buffer(n: usize) -> bool
@@ -63,7 +63,7 @@ fn feed_image(image: &mut [u8], input: &[u8], output: &mut [u8])
 // Feeds the samples of the input, and writes outputs and the whole image.
 #[no_mangle]
 pub extern "C" fn resampler_feed(image: &mut [u8], input: &[u8], output: &mut [u8]) -> u32
-    ensures { λ r. ⌜ feedLeft r (now (image .exit)) (now (output .exit)) ≡ hostFeed (now (image .entry)) (now (input .entry)) (now (output .entry)) ⌝ }
+    ensures { λ r. ⌜ feedReply r (now (image .exit)) (now (output .exit)) ≡ hostFeed (now (image .entry)) (now (input .entry)) (now (output .entry)) ⌝ }
 {
     if !is_image(image) {
         return 5;
@@ -77,7 +77,7 @@ pub extern "C" fn resampler_feed(image: &mut [u8], input: &[u8], output: &mut [u
 
 // Starts a converter in an image.
 fn start_by(image: &mut [u8], kernel: u32, setting: Setting, phase: u32) -> u32
-    ensures { λ r. ⌜ left r (now (image .exit)) ≡ hostStart (now (image .entry)) kernel setting phase ⌝ }
+    ensures { λ r. ⌜ reply r (now (image .exit)) ≡ hostStart (now (image .entry)) kernel setting phase ⌝ }
 {
     if kernel > 3 {
         return 1;
@@ -86,7 +86,7 @@ fn start_by(image: &mut [u8], kernel: u32, setting: Setting, phase: u32) -> u32
     if started.refusal != 0 {
         return started.refusal as u32;
     }
-    if !is_long(image) {
+    if !is_forty(image) {
         return 5;
     }
     let state = started.state;
@@ -105,7 +105,7 @@ fn start_by(image: &mut [u8], kernel: u32, setting: Setting, phase: u32) -> u32
 
 // Replaces the word in an image.
 fn retune_by(image: &mut [u8], setting: Setting) -> u32
-    ensures { λ r. ⌜ left r (now (image .exit)) ≡ hostRetune (now (image .entry)) setting ⌝ }
+    ensures { λ r. ⌜ reply r (now (image .exit)) ≡ hostRetune (now (image .entry)) setting ⌝ }
 {
     if !is_image(image) {
         return 5;
@@ -127,13 +127,15 @@ fn retune_by(image: &mut [u8], setting: Setting) -> u32
     0
 }
 
+// Starts a converter in the image, at a control word.
 #[no_mangle]
 pub extern "C" fn resampler_start_word(image: &mut [u8], kernel: u32, word: u64, phase: u32) -> u32
-    ensures { λ r. ⌜ left r (now (image .exit)) ≡ hostStart (now (image .entry)) kernel (setting.Word word) phase ⌝ }
+    ensures { λ r. ⌜ reply r (now (image .exit)) ≡ hostStart (now (image .entry)) kernel (setting.Word word) phase ⌝ }
 {
     start_by(image, kernel, Setting::Word(word), phase)
 }
 
+// Starts a converter in the image, at a measured ratio of the rates.
 #[no_mangle]
 pub extern "C" fn resampler_start_ratio(
     image: &mut [u8],
@@ -141,11 +143,12 @@ pub extern "C" fn resampler_start_ratio(
     ratio: f64,
     phase: u32,
 ) -> u32
-    ensures { λ r. ⌜ left r (now (image .exit)) ≡ hostStart (now (image .entry)) kernel (setting.Ratio ratio) phase ⌝ }
+    ensures { λ r. ⌜ reply r (now (image .exit)) ≡ hostStart (now (image .entry)) kernel (setting.Ratio ratio) phase ⌝ }
 {
     start_by(image, kernel, Setting::Ratio(ratio), phase)
 }
 
+// Starts a converter in the image, at two rates in whole hertz.
 #[no_mangle]
 pub extern "C" fn resampler_start_rates(
     image: &mut [u8],
@@ -154,28 +157,31 @@ pub extern "C" fn resampler_start_rates(
     fout: u32,
     phase: u32,
 ) -> u32
-    ensures { λ r. ⌜ left r (now (image .exit)) ≡ hostStart (now (image .entry)) kernel (setting.Rates fin fout) phase ⌝ }
+    ensures { λ r. ⌜ reply r (now (image .exit)) ≡ hostStart (now (image .entry)) kernel (setting.Rates fin fout) phase ⌝ }
 {
     start_by(image, kernel, Setting::Rates(fin, fout), phase)
 }
 
+// Replaces the word in the image by another.
 #[no_mangle]
 pub extern "C" fn resampler_retune_word(image: &mut [u8], word: u64) -> u32
-    ensures { λ r. ⌜ left r (now (image .exit)) ≡ hostRetune (now (image .entry)) (setting.Word word) ⌝ }
+    ensures { λ r. ⌜ reply r (now (image .exit)) ≡ hostRetune (now (image .entry)) (setting.Word word) ⌝ }
 {
     retune_by(image, Setting::Word(word))
 }
 
+// Replaces the word in the image by that of a measured ratio.
 #[no_mangle]
 pub extern "C" fn resampler_retune_ratio(image: &mut [u8], ratio: f64) -> u32
-    ensures { λ r. ⌜ left r (now (image .exit)) ≡ hostRetune (now (image .entry)) (setting.Ratio ratio) ⌝ }
+    ensures { λ r. ⌜ reply r (now (image .exit)) ≡ hostRetune (now (image .entry)) (setting.Ratio ratio) ⌝ }
 {
     retune_by(image, Setting::Ratio(ratio))
 }
 
+// Replaces the word in the image by that of two rates.
 #[no_mangle]
 pub extern "C" fn resampler_retune_rates(image: &mut [u8], fin: u32, fout: u32) -> u32
-    ensures { λ r. ⌜ left r (now (image .exit)) ≡ hostRetune (now (image .entry)) (setting.Rates fin fout) ⌝ }
+    ensures { λ r. ⌜ reply r (now (image .exit)) ≡ hostRetune (now (image .entry)) (setting.Rates fin fout) ⌝ }
 {
     retune_by(image, Setting::Rates(fin, fout))
 }

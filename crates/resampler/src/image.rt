@@ -8,9 +8,9 @@ ghost use mathlib.Core.Path.{_≡_};
 ghost use mathlib.Core.List.{_++_};
 ghost use lib.ListN.{length, take};
 ghost use Rattle.resampler.specs.Bytes.{pairsOf};
-ghost use Rattle.resampler.specs.Image.{isLong, isImage, headOf, countsOf, imageOf, savedOf};
+ghost use Rattle.resampler.specs.Image.{isForty, isImage, frontOf, countsOf, imageOf, savedOf};
 
-// What an image holds: a state, and what the last feed counted. `end` is 0 for hungry and 1 for full.
+// What an image holds: a state, and what the last feed counted. A feed leaves 0 or 1 in `end`, for hungry or full; on entry it is anything.
 pub struct Saved {
     pub state: State,
     pub taken: u32,
@@ -50,8 +50,8 @@ pub fn decode(image: &[u8]) -> Saved
 }
 
 // What refusal 5 asks of an image's length.
-pub fn is_long(image: &[u8]) -> bool
-    ensures { λ r. ⌜ r ≡ isLong (now (image .entry)) ⌝ }
+pub fn is_forty(image: &[u8]) -> bool
+    ensures { λ r. ⌜ r ≡ isForty (now (image .entry)) ⌝ }
 {
     image.len() == 40
 }
@@ -60,7 +60,7 @@ pub fn is_long(image: &[u8]) -> bool
 pub fn is_image(image: &[u8]) -> bool
     ensures { λ r. ⌜ r ≡ isImage (now (image .entry)) ⌝ }
 {
-    if !is_long(image) {
+    if !is_forty(image) {
         return false;
     }
     if number_at(image, 2, 2) != 0 {
@@ -74,7 +74,7 @@ pub fn is_image(image: &[u8]) -> bool
 // Writes bytes 0 to 15: kernel, needed count, two zero bytes, register, word.
 fn put_head(image: &mut [u8], s: State)
     requires { ⌜ length (now image) ≡ 40 ⌝ }
-    ensures { λ _. ⌜ take 16 (now (image .exit)) ≡ headOf s ⌝ }
+    ensures { λ _. ⌜ take 16 (now (image .exit)) ≡ frontOf s ⌝ }
 {
     put_number(image, 0, 1, s.kernel as u64);
     put_number(image, 1, 1, s.needed as u64);

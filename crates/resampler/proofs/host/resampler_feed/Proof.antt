@@ -7,7 +7,7 @@ use mathlib.Core.Logic.{_⊎_, inl, inr, ⊎-elim}
 use lib.ListN.{length}
 use denote.Ref.{now}
 use Rattle.resampler.specs.Image.{isImage}
-use Rattle.resampler.specs.Host.{isBuffer, feedLeft}
+use Rattle.resampler.specs.Host.{isBuffer, feedReply}
 use Rattle.resampler.proofs.Hosts.{buffer-is, feed-bad, feed-odd, feed-done}
 use Rattle.resampler.proofs.host.resampler_feed.Statement.{statement}
 use Rattle.resampler.proofs.host.resampler_feed.Tie as tie
@@ -43,7 +43,7 @@ returns-3 : tie.Need-returns-3
 returns-3 c =
     let f = c .before .before .before .before in
     let e = f .before .before .before in
-    (λ i. feedLeft 0 (f .feed-image .ensures .0 i) (f .feed-image .ensures .1 i)) ∙ sym (feed-done _ _ _ (accepted (e .before .before .before .before)) (rw (first-fits (e .before .before), second-fits e)))
+    (λ i. feedReply 0 (f .feed-image .ensures .0 i) (f .feed-image .ensures .1 i)) ∙ sym (feed-done _ _ _ (accepted (e .before .before .before .before)) (rw (first-fits (e .before .before), second-fits e)))
 
 feed-image-requires : tie.Need-feed-image-requires
 feed-image-requires c κs =

@@ -8,7 +8,7 @@ use Rattle.converter.specs.declared.state.Retuned.{Retuned}
 use Rattle.converter.specs.Start.{retuned}
 use Rattle.resampler.specs.declared.image.Saved.{Saved}
 use Rattle.resampler.specs.Image.{imageOf, stateIn, isImage}
-use Rattle.resampler.specs.Host.{left, withState}
+use Rattle.resampler.specs.Host.{reply, withState}
 use Rattle.resampler.proofs.Images.{is-image}
 use Rattle.resampler.proofs.Hosts.{retune-bad, retune-refused, retune-done}
 use Rattle.resampler.proofs.host.retune_by.Statement.{statement}
@@ -28,7 +28,7 @@ returns c = sym (retune-bad _ _ (sym (c .before .is-image .ensures) ∙ not-true
 returns-3 : tie.Need-returns-3
 returns-3 c =
     let r = c .before .before .before .before .before .before .before in
-    ap (left 0) (c .before .before .encode .ensures ∙ (λ i. imageOf (withState (r .before .before .decode .ensures i) (tuned r i .state))))
+    ap (reply 0) (c .before .before .encode .ensures ∙ (λ i. imageOf (withState (r .before .before .decode .ensures i) (tuned r i .state))))
     ∙ sym (retune-done _ _ (accepted (r .before .before .before .before)) (ap (λ (r : Retuned). r .refusal) (sym (tuned r)) ∙ c .before .before .before .before .before .if2 .left))
 
 returns-2 : tie.Need-returns-2

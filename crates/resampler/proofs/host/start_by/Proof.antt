@@ -8,8 +8,8 @@ use denote.Ref.{now}
 use Rattle.converter.specs.declared.state.Started.{Started}
 use Rattle.converter.specs.Start.{started}
 use Rattle.converter.proofs.States.{start-kernel}
-use Rattle.resampler.specs.Image.{isLong, imageOf}
-use Rattle.resampler.specs.Host.{left, uncounted}
+use Rattle.resampler.specs.Image.{isForty, imageOf}
+use Rattle.resampler.specs.Host.{reply, uncounted}
 use Rattle.resampler.proofs.Hosts.{start-refused, start-short, start-done}
 use Rattle.resampler.proofs.host.start_by.Statement.{statement}
 use Rattle.resampler.proofs.host.start_by.Tie as tie
@@ -19,8 +19,8 @@ told : (c : tie.After-start) → let a = c .before .before .before .args in star
 told c = ap (λ (s : Started). s .refusal) (sym (c .start .ensures))
 
 -- the image is 40 bytes long
-long : (c : tie.Else3) → isLong (now (c .before .before .before .before .before .before .before .before .args .image)) ≡ true
-long c = sym (c .before .is-long .ensures) ∙ not-false _ (c .if3 .left)
+long : (c : tie.Else3) → isForty (now (c .before .before .before .before .before .before .before .before .args .image)) ≡ true
+long c = sym (c .before .is-forty .ensures) ∙ not-false _ (c .if3 .left)
 
 returns : tie.Need-returns
 returns c =
@@ -34,14 +34,14 @@ returns-2 c = let s = c .before .before .before in sym (start-refused _ _ _ _ (s
 returns-3 : tie.Need-returns-3
 returns-3 c =
     let b = c .before .before .before in
-    sym (start-short _ _ _ _ (told (b .before .before) ∙ b .if2 .left) (sym (c .before .is-long .ensures) ∙ not-true _ (c .if3 .taken)))
+    sym (start-short _ _ _ _ (told (b .before .before) ∙ b .if2 .left) (sym (c .before .is-forty .ensures) ∙ not-true _ (c .if3 .taken)))
 
 returns-4 : tie.Need-returns-4
 returns-4 c =
     let l = c .before .before .before .before .before in
     let b = l .before .before .before in
     let s = b .before .before in
-    ap (left 0) (c .before .before .encode .ensures ∙ ap (λ (s : Started). imageOf (uncounted (s .state))) (s .start .ensures))
+    ap (reply 0) (c .before .before .encode .ensures ∙ ap (λ (s : Started). imageOf (uncounted (s .state))) (s .start .ensures))
     ∙ sym (start-done _ _ _ _ (told s ∙ b .if2 .left) (long l))
 
 encode-requires : tie.Need-encode-requires
@@ -56,8 +56,8 @@ start-requires c κs = search needs
 cast-result : tie.Need-cast-result
 cast-result c = search needs
 
-is-long-requires : tie.Need-is-long-requires
-is-long-requires c κs = search needs
+is-forty-requires : tie.Need-is-forty-requires
+is-forty-requires c κs = search needs
 
 same-length : tie.Need-same-length
 same-length c = search needs
@@ -74,7 +74,7 @@ start-by-spec =
     start-requires
     cast-result
     returns-2
-    is-long-requires
+    is-forty-requires
     same-length
     returns-3
     encode-requires

@@ -2,7 +2,7 @@
 use mathlib.Core.List.{append-assoc}
 use borrow.Author.Needs.{needs}
 use Rattle.resampler.specs.Bytes.{pairsOf}
-use Rattle.resampler.specs.Image.{headOf, countsOf, imageOf}
+use Rattle.resampler.specs.Image.{frontOf, countsOf, imageOf}
 use Rattle.resampler.proofs.image.encode.Statement.{statement}
 use Rattle.resampler.proofs.image.encode.Tie as tie
 
@@ -25,7 +25,7 @@ returns c =
     let p₂ = p₃ .before .before .before .before in
     let p₁ = p₂ .before .before .before .before in
     let v = p₁ .before .before .before .before .before .args .v in
-    rw (p₃ .put-counts .ensures, p₂ .put-window .ensures, p₁ .put-head .ensures) (append-assoc (headOf (v .state)) (pairsOf (v .state .window)) (countsOf v))
+    rw (p₃ .put-counts .ensures, p₂ .put-window .ensures, p₁ .put-head .ensures) (append-assoc (frontOf (v .state)) (pairsOf (v .state .window)) (countsOf v))
 
 pub encode-spec : {M : Type 1} → statement M
 encode-spec = tie.close (tie.spec put-head-requires put-window-requires put-counts-requires same-length returns)

@@ -14,14 +14,14 @@ use Rattle.resampler.proofs.image.is_image.Tie as tie
 
 -- past the first test, the length is 40
 long : (c : tie.Else1) → length (now (c .before .before .before .args .image)) ≡ 40
-long c = eqb-true _ 40 (sym (c .before .is-long .ensures) ∙ not-false _ (c .if1 .left))
+long c = eqb-true _ 40 (sym (c .before .is-forty .ensures) ∙ not-false _ (c .if1 .left))
 
-is-long-requires : tie.Need-is-long-requires
-is-long-requires c κs = search needs
+is-forty-requires : tie.Need-is-forty-requires
+is-forty-requires c κs = search needs
 
 returns : tie.Need-returns
 unfolding isImage
-returns c = rw (← c .before .is-long .ensures, not-true (c .before .is-long .result) (c .if1 .taken))
+returns c = rw (← c .before .is-forty .ensures, not-true (c .before .is-forty .result) (c .if1 .taken))
 
 number-at-requires : tie.Need-number-at-requires
 number-at-requires c κs = omega (arith, long c)
@@ -49,4 +49,4 @@ is-state-requires : tie.Need-is-state-requires
 is-state-requires c κs = search needs
 
 pub is-image-spec : {M : Type 1} → statement M
-is-image-spec = tie.close (tie.spec is-long-requires returns number-at-requires returns-2 decode-requires is-state-requires returns-3)
+is-image-spec = tie.close (tie.spec is-forty-requires returns number-at-requires returns-2 decode-requires is-state-requires returns-3)

@@ -1,7 +1,7 @@
 -- `resampler::image::put_head` meets its contract: each number is written behind what was written before. Assumes nothing.
 use borrow.Author.Needs.{needs}
 use Rattle.resampler.specs.Bytes.{bytesOf}
-use Rattle.resampler.specs.Image.{headOf}
+use Rattle.resampler.specs.Image.{frontOf}
 use Rattle.resampler.proofs.image.put_head.Statement.{statement}
 use Rattle.resampler.proofs.image.put_head.Tie as tie
 
@@ -33,7 +33,7 @@ same-length : tie.Need-same-length
 same-length c = search needs
 
 returns : tie.Need-returns
-unfolding headOf bytesOf
+unfolding frontOf bytesOf
 returns c =
     let p₅ = c .before .before in
     let p₄ = p₅ .before .before .before .before in
