@@ -11,7 +11,6 @@
 #include "resampler.h"
 
 #include <stdio.h>
-#include <stdlib.h>
 
 enum { BLOCK = 5, BLOCKS = 3, SPACE = 3 };
 

@@ -35,9 +35,14 @@ extern "C" {
 #endif
 
 /* Kernels. The basepoint b of an output is the sample at or before its position; for the three-point kernel it is
-   the nearest one, halves upward. The kernel is evaluated at the fraction from b (which may lie below
-   zero for the three-point kernel), cut down to 14 bits; the value is rounded once, halves upward, and held to
-   -32768..32767. A held output is a clip. Samples before the first are zero. R is how far past b a kernel reads. */
+   the nearest one, halves upward. The kernel is evaluated at u, the fraction from b rounded down to a multiple of
+   2^-14; for the three-point kernel it is below zero where the position lies before b. The value is kept exact,
+   rounded once, halves upward, and held to -32768..32767. A held output is a clip. Samples before the first are
+   zero. R is how far past b a kernel reads. With xm, x0, x1, x2 for the samples b - 1 to b + 2 the values are
+    0   x0 + u (x1 - x0)
+    1   x0 + u (x1 - xm)/2 + u^2 (x1 - 2 x0 + xm)/2
+    2   x0 + u (-x2 + 3 x1 - x0 - xm)/2 + u^2 (x2 - x1 - x0 + xm)/2      (alpha 1/2)
+    3   x0 + u (-x2 + 6 x1 - 3 x0 - 2 xm)/6 + u^2 (x1 - 2 x0 + xm)/2 + u^3 (x2 - 3 x1 + 3 x0 - xm)/6 */
 #define RESAMPLER_LINEAR 0      /* R = 1; samples b and b + 1 */
 #define RESAMPLER_THREE_POINT 1 /* R = 1; samples b - 1 to b + 1 */
 #define RESAMPLER_PARABOLIC 2   /* R = 2; samples b - 1 to b + 2 */
@@ -87,7 +92,8 @@ extern "C" {
    11   sample buffer shorter than the count
    12   host sample buffer of odd length or above 65,536 bytes
 
-   Where several apply a call returns the lowest, except that a retune tests 5 first. */
+   Where several apply a call returns the lowest, except that a retune tests 5 first. Whatever the refusal, every
+   buffer is left as it came. */
 #define RESAMPLER_ACCEPTED 0
 #define RESAMPLER_BAD_KERNEL 1
 #define RESAMPLER_BAD_RATIO 2

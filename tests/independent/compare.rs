@@ -215,7 +215,7 @@ impl Comparison {
         }
     }
 
-    /// A comparison that misses a kernel, an end or a refusal says nothing: that is an error too.
+    /// A comparison that misses a kernel, an end, an outermost word or a refusal says nothing: that is an error too.
     fn reached(&self) -> Result<(), String> {
         let calls = &self.tally.calls;
         let wanted: [&[usize]; 7] = [

@@ -16,7 +16,7 @@ pub fn decode(image: &[u8]) -> Result<State, u32> {
         kernel: image[0],
         needed: image[1],
         register: little(&image[4..8]) as u32,
-        word: little(&image[WORD..16]),
+        word: word(image),
         window: [16, 18, 20, 22].map(|place| little(&image[place..place + 2]) as u16 as i16),
     };
     state::check(&state)?;
@@ -46,6 +46,11 @@ pub fn encode(fed: &Fed) -> Vec<u8> {
 /// What a start leaves: the fresh state, zero counts, HUNGRY.
 pub fn encode_fresh(state: State) -> Vec<u8> {
     encode(&Fed { state, taken: 0, written: 0, clips: 0, end: End::Hungry })
+}
+
+/// The word of an image of 40 bytes.
+pub fn word(image: &[u8]) -> u64 {
+    little(&image[WORD..16])
 }
 
 /// Taken, written, clips and end of an image of 40 bytes.

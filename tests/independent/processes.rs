@@ -218,7 +218,7 @@ fn damage(random: &mut Random, input: &mut Vec<u8>) {
         6 => input[place] = input[place].to_ascii_lowercase(),
         _ => {
             let many = 1 + random.below(300) as usize;
-            input.splice(place..place, std::iter::repeat_n(b'0', many));
+            input.splice(place..place, std::iter::repeat(b'0').take(many));
         }
     }
     if input.is_empty() {

@@ -4,6 +4,7 @@ use crate::host::{self, Answer, Call, Request};
 use crate::image;
 use crate::kernels;
 use crate::paper::Distance;
+use crate::settings::LARGEST_WORD;
 
 #[derive(Default)]
 pub struct Tally {
@@ -17,6 +18,9 @@ pub struct Tally {
 pub struct Kernel {
     pub fresh: u64,
     pub stored: u64,
+    /// Outputs written while the word was 1, and while it was 2^34.
+    at_smallest: u64,
+    at_largest: u64,
     taken: u64,
     clips: u64,
     full: u64,
@@ -29,8 +33,14 @@ impl Tally {
     pub fn count(&mut self, call: &Call, answer: &Answer) {
         self.calls[host::kind(&call.request)][answer.result as usize] += 1;
         if answer.result == 0 && matches!(call.request, Request::Feed) {
-            let [taken, _, clips, end] = image::counts(&answer.image);
+            let [taken, written, clips, end] = image::counts(&answer.image);
             let kernel = &mut self.kernels[answer.image[0] as usize];
+            // A feed leaves the word as it is: it was in force for all that the feed wrote.
+            match image::word(&answer.image) {
+                1 => kernel.at_smallest += written as u64,
+                LARGEST_WORD => kernel.at_largest += written as u64,
+                _ => (),
+            }
             kernel.taken += taken as u64;
             kernel.clips += clips as u64;
             kernel.full += end as u64;
@@ -59,6 +69,7 @@ impl Tally {
         self.print_calls();
         println!("{} outputs, by kernel:", self.outputs());
         print!("{:<8}{:>12}{:>13}", "kernel", "from starts", "from stored");
+        print!("{:>12}{:>14}", "at word 1", "at word 2^34");
         print!("{:>12}{:>10}{:>9}{:>9}", "samples", "clips", "FULL", "HUNGRY");
         println!("{:>18}{:>17}", "largest distance", "smallest margin");
         for (number, kernel) in self.kernels.iter().enumerate() {
@@ -84,14 +95,17 @@ impl Kernel {
         let largest = self.largest as f64 / scale;
         let margin = self.margin.unwrap_or(0) as f64 / scale;
         print!("{number:<8}{:>12}{:>13}", self.fresh, self.stored);
+        print!("{:>12}{:>14}", self.at_smallest, self.at_largest);
         print!("{:>12}{:>10}{:>9}{:>9}", self.taken, self.clips, self.full, self.hungry);
         println!("{largest:>18.6}{margin:>17.2e}");
     }
 
-    /// Whether there were outputs of both sorts and both ends; and clips, unless the kernel is
-    /// linear: its value lies between its samples.
+    /// Whether there were outputs of both sorts, at the smallest and at the largest word, and both
+    /// ends; and clips, unless the kernel is linear: its value lies between its samples.
     pub fn complete(&self, linear: bool) -> bool {
         let clips = (self.clips > 0) != linear;
-        self.fresh > 0 && self.stored > 0 && self.full > 0 && self.hungry > 0 && clips
+        let outputs = [self.fresh, self.stored, self.at_smallest, self.at_largest];
+        let counts = outputs.into_iter().chain([self.full, self.hungry]);
+        counts.min() > Some(0) && clips
     }
 }

@@ -17,7 +17,7 @@ use Rattle.resampler.specs.Bytes.{Bytes, samplesOf}
 use Rattle.resampler.specs.Image.{savedOf, stateIn, isImage}
 use Rattle.resampler.specs.Host.{Reply, FeedReply, isBuffer, hostStart, hostRetune, hostFeed}
 
--- A host call on an image: the input, what the output buffer held, and what the feed reply; or the setting, and what the retune reply.
+-- A host call on an image: the input, what the output buffer held, and what the feed returned and left; or the setting, and what the retune returned and left.
 pub data HostCall : Type 0 where
   feed : (input old : List ℕ) → FeedReply → HostCall
   retune : Setting → Reply → HostCall
@@ -31,7 +31,7 @@ abbrev pub after : HostCall → List ℕ
 after (feed input old l) = l .image
 after (retune a l) = l .image
 
--- the calls cs as they can be seen from the image on: each is lent the image that the call before it reply, and nothing else changes it in between
+-- the calls cs as they can be seen from the image on: each is lent the image that the call before it left, and nothing else changes it in between
 unfoldable pub SeenOn : List ℕ → List HostCall → Type 0
 SeenOn image [] = Unit {0}
 SeenOn image (c ∷ cs) = Meets image c × SeenOn (after c) cs

@@ -195,6 +195,12 @@ pub fn lengths() -> Sheet {
             }
         }
     }
+    sheet.note("Clips at the full length: 32766 outputs, then 32768; half of them are held");
+    sheet.start(3, Setting::Word(ONE), 0x80000000);
+    let square = [i16::MAX, i16::MAX, i16::MIN, i16::MIN].repeat(8192);
+    for _ in 0..2 {
+        sheet.feed(&square, square.len());
+    }
     sheet
 }
 

@@ -22,7 +22,7 @@ module _ (c : tie.After-decode) where
   good : isState (c .decode .result .state) ≡ true
   good = rw held (is-image _ (c .before .before .before .before .before .pre .0) .2)
 
--- what the feed savedBy has room in four bytes
+-- what the feed counted has room in four bytes
 module _ (c : tie.After-feed-bytes) where
   abbrev decoded : tie.After-decode
   decoded = c .before .before .before .before .before
