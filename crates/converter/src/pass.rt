@@ -30,14 +30,14 @@ fn stretch(kernel: u8, word: u64, from: Progress, samples: &[i16], output: &mut 
     requires { ⌜ (word ≤ 2 ^ 34) × (4 ≤ length (now samples)) × (from .at ≤ length (now samples)) × (from .clips ≤ from .written) × (from .written ≤ length (now output)) ⌝ }
     ensures { λ r. ⌜ StretchRight asSamples kernel word (now (samples .entry)) (now (output .entry)) from r (now (output .exit)) ⌝ }
 {
-    let nearest = kernels::nearest(kernel);
+    let nearest = interpolator::nearest(kernel);
     let end = samples.len() - 4;
     let mut register = from.register;
     let mut at = from.at;
     let mut written = from.written;
     let mut held = false;
     while at <= end && written < output.len() && !held {
-        let e = kernels::evaluate(kernel, register, window_at(samples, at));
+        let e = interpolator::evaluate(kernel, register, window_at(samples, at));
         let v = e.value;
         output[written] = v;
         written = written + 1;

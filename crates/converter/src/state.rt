@@ -49,8 +49,8 @@ pub fn is_state(s: State) -> bool
 fn needed_at(kernel: u8, phase: u32) -> u8
     ensures { λ r. ⌜ r ≡ neededAt kernel phase ⌝ }
 {
-    let b = oscillator::basepoint(kernels::nearest(kernel), phase);
-    let needed = b + kernels::reach(kernel) + 1;
+    let b = oscillator::basepoint(interpolator::nearest(kernel), phase);
+    let needed = b + interpolator::reach(kernel) + 1;
     needed as u8
 }
 

@@ -4,12 +4,9 @@ use mathlib.Core.List.{List, [], _∷_, _++_}
 use Prim.Native.Nat.{ℕ, suc, _+_, _-_, _*_, _^_, _<_}
 use native.Mathlib.Omega.{arith}
 use native.Mathlib.Nat.{add-zero, add-suc}
-use lib.Dec.{lit<}
 use lib.IntN.{ℤ, pos}
 use lib.ListN.{length, drop, length-append, length-drop, List·getD-append}
 use lib.Seq.{getD-drop, drop-drop, drop-append-le}
-use lib.Signed.{leZ-yes}
-use Rattle.integers.specs.Range.{in-w, weaken}
 use Rattle.integers.specs.Sample.{IsSample}
 use Rattle.integers.specs.Within.{Within}
 use Rattle.oscillator.specs.Position.{basepoint, fraction, fourteenBits}
@@ -18,11 +15,8 @@ use Rattle.oscillator.proofs.Positions.{fraction-register}
 use Rattle.kernels.specs.Kernel.{Samples, places, Kernel, kernelOf, Agree}
 use Rattle.kernels.specs.Value.{column, rounded, output, clips, joinedAt, newest, windowAt, filterFraction, value, valueClips, numeratorOf, outputOf, clipOf}
 use Rattle.kernels.specs.Distance.{CloseAt}
-use Rattle.kernels.specs.Scale.{weight, largestNumerator}
 use Rattle.kernels.proofs.Hold.{held-fits}
 use Rattle.kernels.proofs.Rows.{output-named, clips-named, close-named, reach-most, named-in-reach}
-use Rattle.kernels.proofs.Table.{fraction-within, column-within}
-use Rattle.kernels.proofs.Scales.{numerator-by, polynomial-within}
 
 -- ---- joined samples: x0, x1 and x2 are samples b, b + 1 and b + 2; xm is the one before b, and zero before the first
 pub joined-at : (xs : List ℤ) (b ahead : ℕ) → joinedAt xs b (suc ahead) ≡ places xs (b + ahead)
@@ -111,15 +105,3 @@ module _ (k : ℕ) (xs : List ℤ) (q : ℕ) (h : length xs ≡ basepoint (kerne
 pub output-fits : (κ : Kernel) (x : Samples) (m : ℤ) → IsSample (output κ x m)
 unfolding output
 output-fits κ x m = held-fits (rounded κ x m)
-
--- ---- of a window of samples no numerator is above 38·2^57 in size, so that i64 has room for a sample times the unit (at most 6·2^57) beside it
-pub numerator-fits : (k register : ℕ) (window : List ℤ) → ((i : ℕ) → IsSample (places window i)) → Within largestNumerator (numeratorOf (kernelOf k) register window)
-unfolding numeratorOf windowAt
-numerator-fits k register window h =
-    let κ : Kernel = kernelOf k in
-    let x : Samples = windowAt κ window in
-    let sample : (place : ℕ) → Within (2 ^ 15) (x place) = λ place. in-w (weaken (leZ-yes tt) (leZ-yes tt) (h (place + 2 - κ .reach))) in
-    let sum : (power : ℕ) → power < 4 → Within (weight power * 2 ^ 15) (column (κ .coefficient power) x)
-    = λ power l. column-within k power l x (sample 0) (sample 1) (sample 2) (sample 3) in
-    subst (Within largestNumerator) (numerator-by (filterFraction κ register) κ x refl refl refl refl)
-    (polynomial-within (filterFraction κ register) (sum 0 (lit< tt)) (sum 1 (lit< tt)) (sum 2 (lit< tt)) (sum 3 (lit< tt)) (fraction-within k register))

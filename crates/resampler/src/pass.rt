@@ -13,7 +13,7 @@ fn stretch(kernel: u8, word: u64, from: Progress, samples: &[u8], output: &mut [
     requires { ⌜ (word ≤ 2 ^ 34) × (8 ≤ length (now samples)) × (from .at ≤ length (samplesOf (now samples))) × (from .clips ≤ from .written) × (from .written ≤ room asPairs (now output)) ⌝ }
     ensures { λ r. ⌜ StretchRight asPairs kernel word (samplesOf (now (samples .entry))) (now (output .entry)) from r (now (output .exit)) ⌝ }
 {
-    let nearest = kernels::nearest(kernel);
+    let nearest = interpolator::nearest(kernel);
     let end = samples.len() / 2 - 4;
     let space = output.len() / 2;
     let mut register = from.register;
@@ -21,7 +21,7 @@ fn stretch(kernel: u8, word: u64, from: Progress, samples: &[u8], output: &mut [
     let mut written = from.written;
     let mut held = false;
     while at <= end && written < space && !held {
-        let e = kernels::evaluate(kernel, register, window_at(samples, at));
+        let e = interpolator::evaluate(kernel, register, window_at(samples, at));
         put_sample(output, written, e.value);
         written = written + 1;
         held = e.clip;

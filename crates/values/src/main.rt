@@ -110,7 +110,7 @@ fn flag(clip: bool) -> u64
 
 // The tally with the kernel's output over one more window. Both numbers stay below 2^31, so the first remainders change nothing.
 fn add(tally: Tally, kernel: u8, register: u32, window: [i16; 4]) -> Tally {
-    let output = kernels::evaluate(kernel, register, window);
+    let output = interpolator::evaluate(kernel, register, window);
     let value = integers::bits(output.value) as u64;
     let clip = flag(output.clip);
     Tally {

@@ -1,0 +1,4 @@
+mod Table
+mod Scales
+mod Mean
+pub mod Sizes
