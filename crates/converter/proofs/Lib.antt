@@ -8,5 +8,3 @@ pub mod Follows
 pub mod Third
 pub mod Traces
 pub mod OneFeed
-pub mod Passing
-pub mod Finishing

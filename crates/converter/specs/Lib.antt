@@ -2,4 +2,3 @@ pub mod Start
 pub mod Feeding
 pub mod Paper
 pub mod Demand
-pub mod Pass

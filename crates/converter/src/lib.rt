@@ -1,12 +1,9 @@
-// The converter: its state, start, retune and block feeding. The definitions that the contracts cite stand in specs/, with the statement of demand 3.
+// The converter: its state, start and retune, and what a feed answers. The definitions stand in specs/, with the statement of demand 3; the function `feed` stands in the crate `feeding`.
 mod feeding;
-mod pass;
 mod state;
 
 pub use feeding::End;
 pub use feeding::Fed;
-pub use feeding::feed;
-pub use pass::Progress;
 pub use state::Retuned;
 pub use state::Started;
 pub use state::State;

@@ -16,7 +16,7 @@ use Rattle.converter.specs.declared.state.Retuned.{Retuned}
 use Rattle.converter.specs.declared.feeding.Fed.{Fed}
 use Rattle.converter.specs.Start.{isState, started, retuned}
 use Rattle.converter.specs.Feeding.{Ran, rule, Answer, answerOf, fedOf, outputsOf, over}
-use Rattle.converter.specs.Pass.{FedBy}
+use Rattle.feeding.specs.Pass.{FedBy}
 use Rattle.converter.proofs.States.{retune-word}
 use Rattle.converter.proofs.Runs.{rule-ending, ending-sizes, rule-clips}
 use Rattle.converter.proofs.Feeds.{fed-rule}

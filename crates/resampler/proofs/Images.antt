@@ -11,7 +11,7 @@ use lib.ListN.{length, take, drop, getD, length-append, length-drop, take-append
 use lib.Seq.{length-take-le, take-all, take-at, drop-at, drop-drop, drop-cons}
 use Rattle.integers.specs.Table.{both}
 use Rattle.converter.specs.Start.{isState, withWord}
-use Rattle.converter.specs.Pass.{windowFrom}
+use Rattle.feeding.specs.Pass.{windowFrom}
 use Rattle.resampler.specs.declared.image.Saved.{Saved}
 use Rattle.resampler.specs.Bytes.{Bytes, numberOf, numberAt, bytesOf, samplesOf, pairOf, pairsOf}
 use Rattle.resampler.specs.Image.{frontOf, countsOf, imageOf, savedOf, stateIn, isForty, isImage}

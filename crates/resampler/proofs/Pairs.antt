@@ -7,8 +7,8 @@ use lib.IntN.{ℤ, pos}
 use lib.ListN.{length, take, drop, getD, length-take, length-drop}
 use lib.Seq.{getD-take, getD-drop}
 use Rattle.integers.specs.Sample.{signed}
-use Rattle.converter.specs.Pass.{headOf}
-use Rattle.converter.proofs.Passing.{Stored}
+use Rattle.feeding.specs.Pass.{headOf}
+use Rattle.feeding.proofs.Passing.{Stored}
 use Rattle.resampler.specs.Bytes.{numberOf, samplesOf, pairOf}
 use Rattle.resampler.specs.Feeding.{asPairs, joinedBytes, Joined}
 use Rattle.resampler.specs.Image.{savedOf, stateIn}

@@ -4,7 +4,7 @@ use mathlib.Core.List.{List, [], _∷_}
 use Prim.Native.Nat.{ℕ, _+_, _*_}
 use lib.ListN.{take, getD}
 use Rattle.converter.specs.declared.state.State.{State}
-use Rattle.converter.specs.Pass.{Layout, headOf, joinedOf}
+use Rattle.feeding.specs.Pass.{Layout, headOf, joinedOf}
 use Rattle.resampler.specs.Bytes.{samplesOf, pairOf}
 
 -- samples as they lie in the host's buffers

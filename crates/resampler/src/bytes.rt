@@ -4,7 +4,7 @@ ghost use mathlib.Core.List.{_++_};
 ghost use Prim.Native.Nat.{_+_, _*_, _^_, _≤_, _<_};
 ghost use lib.IntN.{pos};
 ghost use lib.ListN.{length, take, drop, getD};
-ghost use Rattle.converter.specs.Pass.{windowFrom};
+ghost use Rattle.feeding.specs.Pass.{windowFrom};
 ghost use Rattle.resampler.specs.Bytes.{numberOf, numberAt, bytesOf, pairOf, samplesOf};
 
 // The number that the bytes write.

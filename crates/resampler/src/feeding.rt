@@ -3,7 +3,7 @@ use crate::bytes::window_at;
 use crate::pass::pass_by;
 use converter::End;
 use converter::Fed;
-use converter::Progress;
+use feeding::Progress;
 use converter::State;
 ghost use mathlib.Core.Path.{_≡_};
 ghost use mathlib.Core.Bool.{true};
@@ -11,7 +11,7 @@ ghost use Prim.Native.Nat.{_+_, _*_, _^_, _≤_, _<_};
 ghost use lib.ListN.{length, getD};
 ghost use Rattle.converter.specs.Start.{isState};
 ghost use Rattle.converter.specs.Feeding.{answerOf};
-ghost use Rattle.converter.specs.Pass.{headOf, finishing, FedBy};
+ghost use Rattle.feeding.specs.Pass.{headOf, finishing, FedBy};
 ghost use Rattle.resampler.specs.Bytes.{samplesOf};
 ghost use Rattle.resampler.specs.Feeding.{asPairs, joinedBytes, Joined};
 

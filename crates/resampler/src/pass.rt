@@ -1,10 +1,10 @@
 // A pass over samples that lie in one buffer as byte pairs: the converter's pass, with bytes read and written in the place of samples. It is proved by the converter's laws.
 use crate::bytes::put_sample;
 use crate::bytes::window_at;
-use converter::Progress;
+use feeding::Progress;
 ghost use Prim.Native.Nat.{_+_, _^_, _≤_, _<_};
 ghost use lib.ListN.{length};
-ghost use Rattle.converter.specs.Pass.{passing, room, StretchRight, PassRight};
+ghost use Rattle.feeding.specs.Pass.{passing, room, StretchRight, PassRight};
 ghost use Rattle.resampler.specs.Bytes.{samplesOf};
 ghost use Rattle.resampler.specs.Feeding.{asPairs};
 

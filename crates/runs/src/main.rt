@@ -313,7 +313,7 @@ fn length(seed: &mut u64) -> usize
 fn feed_part(state: State, input: &[i16], samples: usize, output: &mut [i16], space: usize) -> Fed
     requires { do ⌜ (samples ≤ (← ⟦input.len()⟧)) × (space ≤ (← ⟦output.len()⟧)) ⌝ }
 {
-    converter::feed(state, &input[..samples], &mut output[..space])
+    feeding::feed(state, &input[..samples], &mut output[..space])
 }
 
 fn fed(seed: &mut u64, run: Run) -> Run {

@@ -36,7 +36,7 @@ fn show_empty(description: &[u8], state: State) {
     io::write_all(STDOUT_FILENO, description);
     let input = [0i16; 1];
     let mut output = [0i16; 1];
-    let f = converter::feed(state, &input[..0], &mut output[..0]);
+    let f = feeding::feed(state, &input[..0], &mut output[..0]);
     let end = f.end;
     match end {
         End::Hungry => {
@@ -54,7 +54,7 @@ fn settled_empty() {
     show_empty(b"empty buffers, two samples needed", s);
     let input = [5i16; 2];
     let mut output = [0i16; 1];
-    let f = converter::feed(s, &input, &mut output[..0]);
+    let f = feeding::feed(s, &input, &mut output[..0]);
     show_empty(b"empty buffers, none needed", f.state);
 }
 

@@ -29,7 +29,7 @@ fn feed_block(state: State, samples: &[i16], text: &mut [u8]) -> Fed
 {
     let mut outputs = outputs_block();
     let space = least(text.len() / 5, 512);
-    let fed = converter::feed(state, samples, &mut outputs[..space]);
+    let fed = feeding::feed(state, samples, &mut outputs[..space]);
     let written = fed.written;
     put_outputs(&outputs[..written], text);
     fed

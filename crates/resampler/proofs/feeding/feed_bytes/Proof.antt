@@ -12,7 +12,7 @@ use lib.Seq.{length-take-le}
 use denote.Ref.{now}
 use Rattle.converter.specs.declared.state.State.{State}
 use Rattle.converter.proofs.States.{Sound, is-state}
-use Rattle.converter.proofs.Finishing.{begun, joint, first-fed, rest-fed, totals}
+use Rattle.feeding.proofs.Finishing.{begun, joint, first-fed, rest-fed, totals}
 use Rattle.resampler.specs.Bytes.{samplesOf}
 use Rattle.resampler.specs.Feeding.{asPairs}
 use Rattle.resampler.proofs.Samples.{samples-long, pair-long}

@@ -9,8 +9,8 @@ use lib.Dec.{leb}
 use lib.ListN.{length}
 use denote.Ref.{now}
 use Rattle.converter.specs.Feeding.{HUNGRY, FULL, endNumber}
-use Rattle.converter.specs.Pass.{lastPlace, reached}
-use Rattle.converter.proofs.Finishing.{kept-place, finish-is}
+use Rattle.feeding.specs.Pass.{lastPlace, reached}
+use Rattle.feeding.proofs.Finishing.{kept-place, finish-is}
 use Rattle.resampler.specs.Bytes.{samplesOf}
 use Rattle.resampler.proofs.Samples.{samples-long}
 use Rattle.resampler.proofs.feeding.finish.Statement.{statement}

@@ -6,8 +6,8 @@ use Prim.Native.Nat.{ℕ, _+_, _-_}
 use native.Mathlib.Omega.{arith}
 use mir.Val.{boolByte}
 use denote.Ref.{now}
-use Rattle.converter.specs.Pass.{passing, room}
-use Rattle.converter.proofs.Passing.{passing-begins, Standing, standing-on, standing-less}
+use Rattle.feeding.specs.Pass.{passing, room}
+use Rattle.feeding.proofs.Passing.{passing-begins, Standing, standing-on, standing-less}
 use Rattle.resampler.specs.Bytes.{samplesOf}
 use Rattle.resampler.specs.Feeding.{asPairs}
 use Rattle.resampler.proofs.Samples.{samples-long}

@@ -10,7 +10,7 @@ use mir.Syntax.{w16}
 use mir.Val.{SFits}
 use mir.Facts.{toZ-ofZ}
 use denote.Ref.{now}
-use Rattle.converter.proofs.Passing.{byte-is, clip-le, Stretching, stretching-begins, stretching-turn, stretching-ends}
+use Rattle.feeding.proofs.Passing.{byte-is, clip-le, Stretching, stretching-begins, stretching-turn, stretching-ends}
 use Rattle.resampler.specs.Bytes.{samplesOf}
 use Rattle.resampler.specs.Feeding.{asPairs}
 use Rattle.resampler.proofs.Samples.{samples-long}
