@@ -11,7 +11,7 @@ use lib.IntN.{ℤ, pos}
 use lib.ListN.{length, take, drop, getD, set, length-append}
 use lib.Seq.{drop-cons, set-at}
 use Rattle.integers.specs.Table.{both}
-use Rattle.frames.specs.declared.data.DataLine.{DataLine}
+use Rattle.frames.specs.declared.answers.DataLine.{DataLine}
 use Rattle.frames.specs.Line.{allDigits, byteSum, Read, read, refused, refuseUnless, lineEnd, lineDigits}
 use Rattle.frames.specs.Frame.{Frame, sequenceOf, countOf, sampleAt, samplesOf, hasLength, checkHolds, frameOf, dataLine, dataAnswer}
 use Rattle.frames.proofs.Lines.{between-part}

@@ -10,11 +10,9 @@ use lib.Dec.{ltb, eqb}
 use lib.ListN.{length, take, drop, length-take}
 use lib.Seq.{length-take-le}
 use Rattle.integers.specs.Table.{both}
-use Rattle.frames.specs.declared.line.Front.{Front}
 use Rattle.frames.specs.Line.{digitValue, allDigits, numberAfter, field, Read, read, refused, refuseUnless, andThen, lineEnd, hasEnd, afterLetter, lineDigits, used, rest}
-use Rattle.frames.specs.Front.{between, FrontIs}
 use Rattle.frames.proofs.Hex.{all-take, all-drop}
-use Rattle.frames.proofs.Lines.{between-part}
+use Rattle.frames.proofs.Lines.{between}
 
 -- ---- one test: it refuses or lets pass, and what was read has passed it
 module _ {A : Type 0} where
@@ -114,27 +112,6 @@ line-read letter bs follows a e = by-front (lineDigits letter bs) (fronted lette
     by-front : (r : Read (List ℕ)) → ((ds : List ℕ) → r ≡ read ds → Fronted bs ds) → andThen r follows ≡ read a → (ds : List ℕ) × Fronted bs ds × (follows ds ≡ read a)
     by-front (read ds) h e = (ds, h ds refl, e)
     by-front (refused n) h e = let z : _≡_ {A = ℕ} 0 1 = cc in absurd (omega arith)
-
--- ---- what `read_front` returned
-module _ {A : Type 0} (bs : List ℕ) (f : Front) (follows : List ℕ → Read A) where
-  pub front-refused : (r : Read (List ℕ)) → FrontIs r bs f → (f .refusal ≡ 0 → ⊥) → andThen r follows ≡ refused (f .refusal)
-  front-refused (read ds) h n = absurd (n (h .0))
-  front-refused (refused m) h n = ap refused (sym (h .0))
-
-  pub front-follows : (r : Read (List ℕ)) → FrontIs r bs f → f .refusal ≡ 0 → andThen r follows ≡ follows (take (f .end - 1) (drop 1 bs))
-  front-follows (read ds) h e = ap follows (sym (between-part (f .end) bs ∙ h .5))
-  front-follows (refused m) h e = absurd (omega arith)
-
--- the part of the line that is lent
-pub record Lent (bs : List ℕ) (end : ℕ) : Type 0 where
-  pub some : 1 ≤ end
-  pub whole : end < length bs
-  pub near : end < 270
-  pub digits : allDigits (take (end - 1) (drop 1 bs)) ≡ true
-
-pub front-lent : (bs : List ℕ) (f : Front) (r : Read (List ℕ)) → FrontIs r bs f → f .refusal ≡ 0 → Lent bs (f .end)
-front-lent bs f (read ds) h e = record { some = h .2; whole = h .3; near = h .4; digits = ap allDigits (between-part (f .end) bs ∙ h .5) ∙ h .6 }
-front-lent bs f (refused m) h e = absurd (omega arith)
 
 -- ---- what the refusal in a reader's answer tells: the line was read where it is 0
 abbrev pub refusalOf : {A : Type 0} → Read A → ℕ

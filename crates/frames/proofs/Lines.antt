@@ -10,7 +10,6 @@ use lib.Dec.{eqb}
 use lib.ListN.{length, take, drop, getD, length-take}
 use lib.Seq.{take-nil}
 use Rattle.frames.specs.Line.{read, refused, refuseUnless, before10, lineEnd, hasEnd, allDigits, afterLetter, lineDigits}
-use Rattle.frames.specs.Front.{between}
 use Rattle.frames.proofs.Hex.{at-place}
 
 -- ---- the byte 10
@@ -33,6 +32,9 @@ module _ (s : List ℕ) (i : ℕ) (h : i < length s) where
   end-later n = rw (at-place s i h, ne-eqb (getD s i 0) 10 n) (omega arith)
 
 -- ---- the bytes between the letter and place n
+abbrev pub between : ℕ → List ℕ → List ℕ
+between n bs = drop 1 (take n bs)
+
 pub between-part : (n : ℕ) (bs : List ℕ) → take (n - 1) (drop 1 bs) ≡ between n bs
 between-part zero bs = refl
 between-part (suc n) [] = simp unary-clauses (take-nil n)

@@ -9,7 +9,7 @@ use lib.Dec.{eqb}
 use lib.ListN.{length}
 use Rattle.oscillator.specs.Word.{isWord}
 use Rattle.converter.specs.Start.{isKernel}
-use Rattle.frames.specs.declared.start.StartLine.{StartLine}
+use Rattle.frames.specs.declared.answers.StartLine.{StartLine}
 use Rattle.frames.specs.Line.{Read, read, refused, refuseUnless, lineEnd, lineDigits}
 use Rattle.frames.specs.Start.{Start, fieldsOf, startOf, startLine, startAnswer}
 use Rattle.frames.proofs.Fronts.{refuses, passes, passed, Within, within-unless, within-then, front-within, field-below, line-read, refusalOf, was-read, refused-is, refusal-most}

@@ -8,7 +8,7 @@ use lib.IntN.{ℤ}
 use lib.ListN.{length}
 use Rattle.integers.specs.Sample.{signed}
 use Rattle.converter.specs.Feeding.{over}
-use Rattle.frames.specs.declared.data.DataLine.{DataLine}
+use Rattle.frames.specs.declared.answers.DataLine.{DataLine}
 use Rattle.frames.specs.Line.{Read, read, refused, refuseUnless, andThen, lineDigits, field, byteSum}
 
 -- the fields of a D line; its count is the number of its samples

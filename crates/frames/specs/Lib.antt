@@ -1,4 +1,3 @@
 pub mod Line
 pub mod Frame
 pub mod Start
-pub mod Front

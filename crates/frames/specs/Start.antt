@@ -5,7 +5,7 @@ use lib.Dec.{eqb}
 use lib.ListN.{length}
 use Rattle.oscillator.specs.Word.{isWord}
 use Rattle.converter.specs.Start.{isKernel}
-use Rattle.frames.specs.declared.start.StartLine.{StartLine}
+use Rattle.frames.specs.declared.answers.StartLine.{StartLine}
 use Rattle.frames.specs.Line.{Read, read, refused, refuseUnless, andThen, lineDigits, field}
 
 -- the fields of a K line

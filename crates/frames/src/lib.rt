@@ -1,13 +1,5 @@
-// The reader of frame lines. The definitions that the contracts cite stand in specs/.
-mod data;
-mod digits;
-mod line;
-mod start;
+// Frame lines: what a line holds, which refusal it meets, and what the readers answer. Definitions stand in specs/, their laws in proofs/; the functions are those of `reader`.
+mod answers;
 
-pub use data::DataLine;
-pub use data::read_data;
-pub use data::rest_data;
-pub use digits::digit;
-pub use start::StartLine;
-pub use start::read_start;
-pub use start::rest_start;
+pub use answers::DataLine;
+pub use answers::StartLine;

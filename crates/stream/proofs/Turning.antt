@@ -15,8 +15,8 @@ use Rattle.converter.specs.declared.feeding.Fed.{Fed}
 use Rattle.converter.specs.Start.{isState}
 use Rattle.converter.specs.Feeding.{Answer, answerOf, fedOf, outputsOf, over}
 use Rattle.converter.proofs.Feeds.{fed-rule, fed-refused, fed-sizes}
-use Rattle.frames.specs.declared.data.DataLine.{DataLine}
-use Rattle.frames.specs.declared.start.StartLine.{StartLine}
+use Rattle.frames.specs.declared.answers.DataLine.{DataLine}
+use Rattle.frames.specs.declared.answers.StartLine.{StartLine}
 use Rattle.frames.specs.Line.{Read, read, lineEnd}
 use Rattle.frames.specs.Frame.{Frame, dataLine, dataAnswer, filled, DataRight}
 use Rattle.frames.specs.Start.{Start, startLine, startAnswer}

@@ -12,10 +12,10 @@ fn put_output(y: i16, text: &mut [u8])
     ensures { λ _. ⌜ now (text .exit) ≡ outputLine y ++ drop 5 (now (text .entry)) ⌝ }
 {
     let v = integers::bits(y) as u64;
-    text[0] = frames::digit(v / 4096);
-    text[1] = frames::digit(v / 256);
-    text[2] = frames::digit(v / 16);
-    text[3] = frames::digit(v);
+    text[0] = reader::digit(v / 4096);
+    text[1] = reader::digit(v / 256);
+    text[2] = reader::digit(v / 16);
+    text[3] = reader::digit(v);
     text[4] = 10;
 }
 
@@ -40,7 +40,7 @@ fn put_number(n: u64, text: &mut [u8])
     let mut i: usize = 16;
     while i > 0 {
         i -= 1;
-        text[i] = frames::digit(left);
+        text[i] = reader::digit(left);
         left /= 16;
     }
 }

@@ -93,7 +93,7 @@ fn start_turn(s: Stream, bytes: &[u8], ended: bool, text: &mut [u8]) -> Turn
     requires { ⌜ 34 ≤ length (now text) ⌝ }
     ensures { λ r. ⌜ Wrote (startTurn s (startLine (now (bytes .entry))) (now (bytes .entry)) ended) (now (text .entry)) r (now (text .exit)) ⌝ }
 {
-    let k = frames::read_start(bytes);
+    let k = reader::read_start(bytes);
     if k.refusal != 0 {
         return refuses(s, k.refusal, bytes.len(), ended, text);
     }
@@ -190,7 +190,7 @@ fn data_turn(s: Stream, bytes: &[u8], ended: bool, text: &mut [u8]) -> Turn
     ensures { λ r. ⌜ Wrote (dataTurn s (dataLine 64 (now (bytes .entry))) (now (bytes .entry)) ended (length (now (text .entry)))) (now (text .entry)) r (now (text .exit)) ⌝ }
 {
     let mut samples = samples_block();
-    let d = frames::read_data(bytes, &mut samples);
+    let d = reader::read_data(bytes, &mut samples);
     if d.refusal != 0 {
         return refuses(s, d.refusal, bytes.len(), ended, text);
     }

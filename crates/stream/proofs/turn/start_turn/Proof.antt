@@ -8,7 +8,7 @@ use native.Mathlib.Omega.{arith}
 use denote.Ref.{now}
 use Rattle.oscillator.specs.declared.settings.Setting.the-variants as setting
 use Rattle.converter.specs.Start.{started}
-use Rattle.frames.specs.declared.start.StartLine.{StartLine}
+use Rattle.frames.specs.declared.answers.StartLine.{StartLine}
 use Rattle.stream.specs.declared.turn.Next.the-variants as next
 use Rattle.frames.proofs.Starts.{start-refused, start-most}
 use Rattle.stream.proofs.Turning.{start-begun}
