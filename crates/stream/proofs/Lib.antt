@@ -6,7 +6,4 @@ pub mod Whole
 pub mod OneRun
 pub mod Sizes
 pub mod Progress
-pub mod Blocks
-pub mod Turning
-pub mod Moving
 pub mod Examples

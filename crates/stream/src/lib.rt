@@ -1,12 +1,7 @@
-// From frame lines to the lines of outputs, for input that comes in pieces of any length. The definitions that the contracts cite stand in specs/, with the statement about whole runs.
-mod feeding;
-mod text;
+// The program over frame lines: what it writes from its whole input, what one turn of it does, and that turns come to the whole. Definitions stand in specs/, their laws in proofs/; the
+// functions are those of `turns`.
 mod turn;
-mod unread;
 
 pub use turn::Next;
 pub use turn::Stream;
 pub use turn::Turn;
-pub use turn::make_turn;
-pub use turn::open;
-pub use unread::to_front;

@@ -6,7 +6,7 @@ use Rattle.resample.proofs.step.Tie as tie
 use Rattle.resample.proofs.step.Reads as reads
 use Rattle.resample.proofs.step.Lts as lts
 use Rattle.resample.proofs.serve.Reads as serve-reads
-use Rattle.stream.proofs.make_turn.Reads as make-turn-reads
+use Rattle.turns.proofs.make_turn.Reads as make-turn-reads
 
 sub-make-turn : tie.Need-sub-make-turn
 sub-make-turn c = search needs
