@@ -1,20 +1,14 @@
 -- What the code asks of the coefficient table, by computation. Assumes nothing.
-use mathlib.Core.Path.{_≡_, refl}
-use mathlib.Core.Bool.{Bool, true, false, _&&_}
+use mathlib.Core.Bool.{Bool, _&&_}
 use Prim.Native.Nat.{ℕ, zero, suc, _+_, _*_, _^_, _<_, _≤_}
 use native.Mathlib.Omega.{arith}
 use native.Mathlib.Nat.{mul-le-mul-right}
-use borrow.Author.Tests.{ne-eqb}
-use lib.Dec.{T, leb, leb→le, eqb}
+use lib.Dec.{T, leb, leb→le}
 use lib.IntN.{ℤ, natAbs, _*ℤ_}
-use lib.Signed.{leZ-yes}
 use mir.Facts.{and-yes}
-use Rattle.integers.specs.Range.{in-w, weaken}
 use Rattle.integers.specs.Within.{Within, w-lit, w-add, w-mul, w-weaken}
-use Rattle.oscillator.specs.Position.{fraction, fourteenBits}
-use Rattle.oscillator.proofs.Positions.{fourteen-nearest, fourteen-before}
-use Rattle.kernels.specs.Kernel.{Samples, entry, Kernel, kernelOf}
-use Rattle.kernels.specs.Value.{column, filterFraction}
+use Rattle.kernels.specs.Kernel.{Samples, Kernel, kernelOf}
+use Rattle.kernels.specs.Value.{column}
 use Rattle.interpolator.specs.Scale.{weight}
 use Rattle.kernels.proofs.Rows.{of-all}
 

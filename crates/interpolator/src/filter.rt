@@ -1,7 +1,7 @@
 // The exact value of a kernel over a window of samples, as a numerator over `unit`. Kernel numbers above 3 stand for 3.
 ghost use mathlib.Core.Path.{_≡_};
 ghost use Prim.Native.Nat.{ℕ, _*_, _^_, _<_};
-ghost use lib.IntN.{ℤ, pos, _*ℤ_};
+ghost use lib.IntN.{pos, _*ℤ_};
 ghost use Rattle.integers.specs.Within.{Within};
 ghost use Rattle.kernels.specs.Kernel.{places, four, coefficients, kernelOf};
 ghost use Rattle.kernels.specs.Value.{column, polynomial, numerator, unit, windowAt, filterFraction, numeratorOf};

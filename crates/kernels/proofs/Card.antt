@@ -1,19 +1,18 @@
 -- What ties the card's register and window to a position over joined samples: `evaluate` gives the value of demand 2. The converter cites these laws. Assumes nothing.
-use mathlib.Core.Path.{_≡_, refl, sym, _∙_, ap, subst}
+use mathlib.Core.Path.{_≡_, refl, sym, _∙_, ap}
 use mathlib.Core.List.{List, [], _∷_, _++_}
-use Prim.Native.Nat.{ℕ, suc, _+_, _-_, _*_, _^_, _<_}
+use Prim.Native.Nat.{ℕ, suc, _+_, _-_, _<_}
 use native.Mathlib.Omega.{arith}
 use native.Mathlib.Nat.{add-zero, add-suc}
 use lib.IntN.{ℤ, pos}
 use lib.ListN.{length, drop, length-append, length-drop, List·getD-append}
 use lib.Seq.{getD-drop, drop-drop, drop-append-le}
 use Rattle.integers.specs.Sample.{IsSample}
-use Rattle.integers.specs.Within.{Within}
 use Rattle.oscillator.specs.Position.{basepoint, fraction, fourteenBits}
 use Rattle.oscillator.specs.Register.{registerOf}
 use Rattle.oscillator.proofs.Positions.{fraction-register}
 use Rattle.kernels.specs.Kernel.{Samples, places, Kernel, kernelOf, Agree}
-use Rattle.kernels.specs.Value.{column, rounded, output, clips, joinedAt, newest, windowAt, filterFraction, value, valueClips, numeratorOf, outputOf, clipOf}
+use Rattle.kernels.specs.Value.{rounded, output, clips, joinedAt, newest, windowAt, filterFraction, value, valueClips, outputOf, clipOf}
 use Rattle.kernels.specs.Distance.{CloseAt}
 use Rattle.kernels.proofs.Hold.{held-fits}
 use Rattle.kernels.proofs.Rows.{output-named, clips-named, close-named, reach-most, named-in-reach}

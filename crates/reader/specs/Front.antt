@@ -3,7 +3,7 @@ use mathlib.Core.Path.{_≡_}
 use mathlib.Core.Bool.{true}
 use mathlib.Core.List.{List}
 use Prim.Native.Nat.{ℕ, _≤_, _<_}
-use lib.ListN.{length, take, drop}
+use lib.ListN.{length}
 use Rattle.frames.proofs.Lines.{between}
 use Rattle.reader.specs.declared.line.Front.{Front}
 use Rattle.frames.specs.Line.{Read, read, refused, lineEnd, allDigits, lineDigits}

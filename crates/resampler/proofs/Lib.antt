@@ -1,9 +1,3 @@
-pub mod Numbers
-pub mod Samples
-pub mod Images
-pub mod Pairs
-pub mod Windows
-pub mod Hosts
-pub mod Calls
-pub mod Examples
-pub mod HostTraces
+mod Pairs
+mod Parts
+mod FedBytes

@@ -9,10 +9,10 @@ use lib.Seq.{getD-take, getD-drop}
 use Rattle.integers.specs.Sample.{signed}
 use Rattle.feeding.specs.Pass.{headOf}
 use Rattle.feeding.proofs.Passing.{Stored}
-use Rattle.resampler.specs.Bytes.{numberOf, samplesOf, pairOf}
+use Rattle.host.specs.Bytes.{numberOf, samplesOf, pairOf}
 use Rattle.resampler.specs.Feeding.{asPairs, joinedBytes, Joined}
-use Rattle.resampler.specs.Image.{savedOf, stateIn}
-use Rattle.resampler.proofs.Samples.{sample-is, samples-part}
+use Rattle.host.specs.Image.{savedOf, stateIn}
+use Rattle.host.proofs.Samples.{sample-is, samples-part}
 
 -- a sample is stored as its pair; z is the value as it is lent
 pub stored-two : {left left' : List ℕ} (i : ℕ) {v z : ℤ} → length left' ≡ length left → z ≡ v

@@ -5,7 +5,7 @@ use Prim.Native.Nat.{ℕ, _+_, _*_}
 use lib.ListN.{take, getD}
 use Rattle.converter.specs.declared.state.State.{State}
 use Rattle.feeding.specs.Pass.{Layout, headOf, joinedOf}
-use Rattle.resampler.specs.Bytes.{samplesOf, pairOf}
+use Rattle.host.specs.Bytes.{samplesOf, pairOf}
 
 -- samples as they lie in the host's buffers
 abbrev pub asPairs : Layout ℕ

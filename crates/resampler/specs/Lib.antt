@@ -1,5 +1,1 @@
-pub mod Bytes
-pub mod Image
-pub mod Host
-pub mod Calls
 pub mod Feeding

@@ -4,20 +4,12 @@ use crate::bytes::put_number;
 use crate::bytes::put_sample;
 use crate::bytes::window_at;
 use converter::State;
+use host::Saved;
 ghost use mathlib.Core.Path.{_≡_};
 ghost use mathlib.Core.List.{_++_};
 ghost use lib.ListN.{length, take};
-ghost use Rattle.resampler.specs.Bytes.{pairsOf};
-ghost use Rattle.resampler.specs.Image.{isForty, isImage, frontOf, countsOf, imageOf, savedOf};
-
-// What an image holds: a state, and what the last feed counted. A feed leaves 0 or 1 in `end`, for hungry or full; on entry it is anything.
-pub struct Saved {
-    pub state: State,
-    pub taken: u32,
-    pub written: u32,
-    pub clips: u32,
-    pub end: u32,
-}
+ghost use Rattle.host.specs.Bytes.{pairsOf};
+ghost use Rattle.host.specs.Image.{isForty, isImage, frontOf, countsOf, imageOf, savedOf};
 
 // What an image holds.
 pub fn decode(image: &[u8]) -> Saved

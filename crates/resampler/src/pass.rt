@@ -5,7 +5,7 @@ use feeding::Progress;
 ghost use Prim.Native.Nat.{_+_, _^_, _≤_, _<_};
 ghost use lib.ListN.{length};
 ghost use Rattle.feeding.specs.Pass.{passing, room, StretchRight, PassRight};
-ghost use Rattle.resampler.specs.Bytes.{samplesOf};
+ghost use Rattle.host.specs.Bytes.{samplesOf};
 ghost use Rattle.resampler.specs.Feeding.{asPairs};
 
 // Goes on with a pass up to an output that is held, or until the samples or the space are spent.

@@ -6,9 +6,9 @@ use borrow.Author.Tests.{eqb-true, eq-eqb, ne-eqb, not-true, not-false}
 use denote.Ref.{now}
 use lib.ListN.{length}
 use Rattle.converter.specs.Start.{isState}
-use Rattle.resampler.specs.declared.image.Saved.{Saved}
-use Rattle.resampler.specs.Bytes.{numberAt}
-use Rattle.resampler.specs.Image.{isImage}
+use Rattle.host.specs.declared.image.Saved.{Saved}
+use Rattle.host.specs.Bytes.{numberAt}
+use Rattle.host.specs.Image.{isImage}
 use Rattle.resampler.proofs.image.is_image.Statement.{statement}
 use Rattle.resampler.proofs.image.is_image.Tie as tie
 

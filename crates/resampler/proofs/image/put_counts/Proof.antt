@@ -5,9 +5,9 @@ use borrow.Author.Needs.{needs}
 use denote.Ref.{now}
 use lib.ListN.{take}
 use lib.Seq.{take-all}
-use Rattle.resampler.specs.Bytes.{bytesOf}
-use Rattle.resampler.specs.Image.{countsOf}
-use Rattle.resampler.proofs.Images.{behind}
+use Rattle.host.specs.Bytes.{bytesOf}
+use Rattle.host.specs.Image.{countsOf}
+use Rattle.resampler.proofs.Parts.{behind}
 use Rattle.resampler.proofs.image.put_counts.Statement.{statement}
 use Rattle.resampler.proofs.image.put_counts.Tie as tie
 

@@ -8,8 +8,8 @@ use lib.IntN.{ℤ, pos}
 use lib.Signed.{mag}
 use lib.ListN.{take, getD}
 use Rattle.integers.specs.Sample.{signed, bits, signed-bits}
-use Rattle.resampler.specs.Bytes.{pairOf}
-use Rattle.resampler.proofs.Images.{behind, window-pairs}
+use Rattle.host.specs.Bytes.{pairOf}
+use Rattle.resampler.proofs.Parts.{behind, window-pairs}
 use Rattle.resampler.proofs.image.put_window.Statement.{statement}
 use Rattle.resampler.proofs.image.put_window.Tie as tie
 

@@ -8,9 +8,9 @@ use mir.Val.{boolByte}
 use denote.Ref.{now}
 use Rattle.feeding.specs.Pass.{passing, room}
 use Rattle.feeding.proofs.Passing.{passing-begins, Standing, standing-on, standing-less}
-use Rattle.resampler.specs.Bytes.{samplesOf}
+use Rattle.host.specs.Bytes.{samplesOf}
 use Rattle.resampler.specs.Feeding.{asPairs}
-use Rattle.resampler.proofs.Samples.{samples-long}
+use Rattle.host.proofs.Samples.{samples-long}
 use Rattle.resampler.proofs.pass.pass.Statement.{statement}
 use Rattle.resampler.proofs.pass.pass.Tie as tie
 

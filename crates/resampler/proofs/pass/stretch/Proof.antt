@@ -11,9 +11,9 @@ use mir.Val.{SFits}
 use mir.Facts.{toZ-ofZ}
 use denote.Ref.{now}
 use Rattle.feeding.proofs.Passing.{byte-is, clip-le, Stretching, stretching-begins, stretching-turn, stretching-ends}
-use Rattle.resampler.specs.Bytes.{samplesOf}
+use Rattle.host.specs.Bytes.{samplesOf}
 use Rattle.resampler.specs.Feeding.{asPairs}
-use Rattle.resampler.proofs.Samples.{samples-long}
+use Rattle.host.proofs.Samples.{samples-long}
 use Rattle.resampler.proofs.Pairs.{stored-two}
 use Rattle.resampler.proofs.pass.stretch.Statement.{statement}
 use Rattle.resampler.proofs.pass.stretch.Tie as tie

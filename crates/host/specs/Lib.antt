@@ -1,0 +1,4 @@
+pub mod Bytes
+pub mod Image
+pub mod Host
+pub mod Calls

@@ -1,0 +1,46 @@
+-- A feed over the samples of bytes: its counts, and the image and the output that it leaves. Assumes nothing.
+use mathlib.Core.Path.{_≡_, sym, ap, _∙_}
+use mathlib.Core.Bool.{true}
+use mathlib.Core.List.{List}
+use Prim.Native.Nat.{ℕ, _/_, _≤_}
+use native.Mathlib.Omega.{arith}
+use lib.IntN.{ℤ}
+use lib.ListN.{length}
+use Rattle.converter.specs.declared.state.State.{State}
+use Rattle.converter.specs.declared.feeding.Fed.{Fed}
+use Rattle.converter.specs.Start.{isState}
+use Rattle.converter.specs.Feeding.{Ran, rule, Answer, answerOf, fedOf, outputsOf, over}
+use Rattle.feeding.specs.Pass.{FedBy}
+use Rattle.converter.proofs.Runs.{rule-ending, ending-sizes, rule-clips}
+use Rattle.converter.proofs.Feeds.{fed-rule}
+use Rattle.host.specs.Bytes.{samplesOf, pairsOf}
+use Rattle.host.specs.Image.{imageOf, stateIn}
+use Rattle.host.specs.Host.{savedBy, imageFed, outputFed}
+use Rattle.host.proofs.Samples.{samples-long}
+use Rattle.resampler.specs.Feeding.{asPairs}
+
+module _ (input old : List ℕ) {after : List ℕ} {s : State} {f : Fed} (good : isState s ≡ true) (h : FedBy asPairs s (samplesOf input) old f after) where
+  abbrev ran : Ran
+  ran = rule (samplesOf input) (length old / 2) s
+
+  -- its counts
+  pub fed-sizes : (f .taken ≤ length input) × (f .written ≤ length old) × (f .clips ≤ length old)
+  fed-sizes =
+      let z = ending-sizes (rule-ending (samplesOf input) (length old / 2) s) in
+      let t : f .taken ≡ ran .taken = ap (λ (a : Answer). a .taken) (h .answer) in
+      let w : f .written ≡ length (ran .outputs) = ap (λ (a : Answer). a .written) (h .answer) in
+      let c : f .clips ≡ ran .clips = ap (λ (a : Answer). a .clips) (h .answer) in
+      let l = samples-long input in
+      let k = rule-clips (samplesOf input) (length old / 2) s in
+      (omega (arith, z), omega (arith, z), omega (arith, z))
+
+  -- the image that is written, and the output buffer
+  pub fed-image : (image : List ℕ) → s ≡ stateIn image → imageOf (savedBy (answerOf f)) ≡ imageFed image input old
+  unfolding imageFed
+  fed-image image e = ap (λ (a : Answer). imageOf (savedBy a)) (h .answer ∙ sym (fed-rule s good (samplesOf input) (length old / 2) .0)) ∙ ap (λ (s : State). imageOf (savedBy (fedOf s (samplesOf input) (length old / 2)))) e
+
+  pub fed-output : (image : List ℕ) → s ≡ stateIn image → after ≡ outputFed image input old
+  unfolding outputFed
+  fed-output image e =
+      h .buffer ∙ ap (λ (ys : List ℤ). over (pairsOf ys) old) (sym (fed-rule s good (samplesOf input) (length old / 2) .1))
+      ∙ ap (λ (s : State). over (pairsOf (outputsOf s (samplesOf input) (length old / 2))) old) e
