@@ -9,11 +9,11 @@ use borrow.Author.Tests.{leb-true, eqb-true, le-leb, eq-eqb}
 use lib.Dec.{leb, eqb}
 use lib.IntN.{ℤ, pos}
 use lib.ListN.{length, take, drop, getD, set, length-append}
-use lib.Seq.{drop-cons, set-at}
+use lib.Seq.{drop-cons, set-at, take-append-seam, drop-append-seam}
 use Rattle.integers.specs.Table.{both}
 use Rattle.frames.specs.declared.answers.DataLine.{DataLine}
 use Rattle.frames.specs.Line.{allDigits, byteSum, Read, read, refused, refuseUnless, lineEnd, lineDigits}
-use Rattle.frames.specs.Frame.{Frame, sequenceOf, countOf, sampleAt, samplesOf, hasLength, checkHolds, frameOf, dataLine, dataAnswer}
+use Rattle.frames.specs.Frame.{Frame, sequenceOf, countOf, sampleAt, samplesOf, hasLength, checkHolds, frameOf, dataLine, dataAnswer, filled}
 use Rattle.frames.proofs.Lines.{between-part}
 use Rattle.frames.proofs.Fronts.{refuses, passes, passed, Within, within-unless, within-then, front-within, line-read, refusalOf, was-read, refused-is, refusal-most}
 
@@ -149,3 +149,11 @@ data-refused d space bs e h = let i = refusal-is (dataLine space bs) d e in refu
 
 pub data-most : (d : DataLine) (space : ℕ) (bs : List ℕ) → d ≡ dataAnswer (dataLine space bs) → d .refusal ≤ 11
 data-most d space bs e = omega (arith, refusal-is (dataLine space bs) d e, refusal-most 6 11 (dataLine space bs) (data-within space bs))
+
+-- ---- the sample buffer: the first count places have the samples, and those past them what they held
+pub filled-past : (r : Read Frame) (old : List ℤ) → drop (dataAnswer r .count) (filled r old) ≡ drop (dataAnswer r .count) old
+filled-past (read f) old = drop-append-seam (f .samples) (drop (length (f .samples)) old)
+filled-past (refused n) old = refl
+
+pub filled-first : (f : Frame) (old : List ℤ) → take (dataAnswer (read f) .count) (filled (read f) old) ≡ f .samples
+filled-first f old = take-append-seam (f .samples) (drop (length (f .samples)) old)

@@ -5,10 +5,10 @@ use mathlib.Core.List.{List, [], _∷_}
 use Prim.Native.Nat.{ℕ, zero, suc, _+_, _-_, _≤_, _<_}
 use native.Mathlib.Numerals.{unary-clauses}
 use native.Mathlib.Omega.{arith}
-use borrow.Author.Tests.{eq-eqb, ne-eqb, lt-ltb, le-ltb}
+use borrow.Author.Tests.{eq-eqb, ne-eqb, lt-ltb, le-ltb, ltb-true}
 use lib.Dec.{eqb}
 use lib.ListN.{length, take, drop, getD, length-take}
-use lib.Seq.{take-nil}
+use lib.Seq.{take-nil, getD-take}
 use Rattle.frames.specs.Line.{read, refused, refuseUnless, before10, lineEnd, hasEnd, allDigits, afterLetter, lineDigits}
 use Rattle.frames.proofs.Hex.{at-place}
 
@@ -48,6 +48,27 @@ first-and-rest (suc n) (b ∷ bs) p h = refl
 -- ---- a place among the first 270 bytes
 pub end-within : (bs : List ℕ) (end : ℕ) → end < length (take 270 bs) → (end < 270) × (end < length bs)
 end-within bs end h = let l = length-take 270 bs in (omega arith, omega arith)
+
+-- ---- a line ends at a byte 10 among the first 270 bytes, and wherever there is one
+pub ends-within : (bs : List ℕ) → hasEnd bs ≡ true → (lineEnd bs < 270) × (lineEnd bs < length bs)
+unfolding hasEnd
+ends-within bs e = end-within bs (lineEnd bs) (ltb-true (lineEnd bs) (length (take 270 bs)) e)
+
+before-le : (xs : List ℕ) (i : ℕ) → i < length xs → getD xs i 0 ≡ 10 → before10 xs ≤ i
+unfolding before10
+before-le [] i h e = absurd (omega arith)
+before-le (b ∷ xs) zero h e = rw (eq-eqb b 10 e) (omega arith)
+before-le (b ∷ xs) (suc i) h e = by-test (eqb b 10) (before-le xs i (omega arith) e)
+  where
+    by-test : (t : Bool) → before10 xs ≤ i → cond t 0 (suc (before10 xs)) ≤ suc i
+    by-test true l = omega arith
+    by-test false l = omega arith
+
+pub ends-found : (bs : List ℕ) (i : ℕ) → i < 270 → i < length bs → getD bs i 0 ≡ 10 → hasEnd bs ≡ true
+unfolding hasEnd lineEnd
+ends-found bs i near h e =
+    let l = length-take 270 bs in
+    lt-ltb (before10 (take 270 bs)) (length (take 270 bs)) (omega (arith, before-le (take 270 bs) i (omega arith) (getD-take 270 bs i 0 near ∙ e)))
 
 -- ---- the outcome of a line by the tests in their order
 module _ (letter : ℕ) (bs : List ℕ) (end : ℕ) (is : end ≡ lineEnd bs) where

@@ -6,4 +6,5 @@ pub mod Whole
 pub mod OneRun
 pub mod Sizes
 pub mod Progress
+pub mod Moving
 pub mod Examples

@@ -4,7 +4,7 @@ use mathlib.Core.Path.{_≡_, subst}
 use Prim.Native.Nat.{suc, _+_, _-_, _≤_}
 use native.Mathlib.Omega.{arith}
 use lib.ListN.{length}
-use Rattle.turns.proofs.Moving.{Moved, moved-none, moved-next, moved-all}
+use Rattle.stream.proofs.Moving.{Moved, moved-none, moved-next, moved-all}
 use Rattle.turns.proofs.unread.to_front.Statement.{statement}
 use Rattle.turns.proofs.unread.to_front.Tie as tie
 use Rattle.turns.proofs.unread.to_front.Reads as reads
