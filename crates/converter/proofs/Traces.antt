@@ -14,7 +14,9 @@ use Rattle.converter.specs.declared.feeding.End.{End}
 use Rattle.converter.specs.declared.feeding.End.the-variants as end
 use Rattle.converter.specs.Start.{isState, retuned}
 use Rattle.converter.specs.Feeding.{endNumber, rule, Answer, answerOf, fedOf, outputsOf, over}
-use Rattle.converter.specs.Demand.{Call, Meets, after, Seen}
+use Rattle.converter.specs.Paper.{Given}
+use Rattle.converter.specs.Paper as paper
+use Rattle.converter.specs.Demand.{Call, Meets, after, Seen, given}
 use Rattle.converter.specs.Demand as demand
 use Rattle.converter.proofs.Runs.{Ending, full, hungry, rule-ending}
 use Rattle.converter.proofs.Feeds.{fed-rule, fed-refused}
@@ -67,6 +69,15 @@ pub data Asked : Type 0 where
 abbrev pub asked : Call → Asked
 asked (demand.feed input old f left) = feed input old
 asked (demand.retune a r) = retune a
+
+-- "The paper's run is fed the arguments of the calls and none of their answers"
+abbrev pub givenBy : Asked → Given
+givenBy (feed input old) = paper.feed input (length old)
+givenBy (retune a) = paper.retune a
+
+pub given-asked : (c : Call) → given c ≡ givenBy (asked c)
+given-asked (demand.feed input old f left) = refl
+given-asked (demand.retune a r) = refl
 
 abbrev pub call : State → Asked → Call
 call s (feed input old) = demand.feed input old (fedBack (fedOf s input (length old))) (over (outputsOf s input (length old)) old)

@@ -26,10 +26,10 @@ module _ (ds : List ℕ) where
   is-long : hasLength ds ≡ true → Long ds
   unfolding hasLength
   is-long e =
-      let a = both (leb 12 (length ds) && leb 1 (countOf ds) && leb (countOf ds) 64) (eqb (length ds) (12 + countOf ds * 4)) e in
-      let b = both (leb 12 (length ds) && leb 1 (countOf ds)) (leb (countOf ds) 64) (a .0) in
+      let a = both _ (eqb (length ds) (12 + countOf ds * 4)) e in
+      let b = both (leb 12 (length ds) && leb 1 (countOf ds)) _ (a .0) in
       let d = both (leb 12 (length ds)) (leb 1 (countOf ds)) (b .0) in
-      (leb-true 1 (countOf ds) (d .1), leb-true (countOf ds) 64 (b .1), eqb-true (length ds) (12 + countOf ds * 4) (a .1))
+      (leb-true 1 (countOf ds) (d .1), omega (arith, leb-true (countOf ds) _ (b .1)), eqb-true (length ds) (12 + countOf ds * 4) (a .1))
 
   long-is : Long ds → hasLength ds ≡ true
   unfolding hasLength

@@ -64,6 +64,19 @@ module _ (xm x0 x1 x2 n s : ℤ) where
       :+ lit (pos 3) :* (n :* n :* s) :* (x1 :- lit (pos 2) :* x0 :+ xm)
       :+ n :* n :* n :* (x2 :- lit (pos 3) :* x1 :+ lit (pos 3) :* x0 :- xm)) tt xm x0 x1 x2 n s
 
+  -- "Lagrange": kernel 1 goes through xm at u = −1 too, beside x0 and x1 (laws `starts-at-x0` and `ends-at-x1`), and kernel 3 through xm at u = −1 and x2 at u = 2
+  pub lagrange-at-xm : numerator (kernelOf 1) (four xm x0 x1 x2) (negℤ s) s ≡ pos 2 *ℤ xm *ℤ u⁰
+  unfolding kernelOf numerator polynomial column
+  lagrange-at-xm = identity 5 (λ xm x0 x1 x2 s. numeratorE (kernelOf 1) (four xm x0 x1 x2) (neg s) s := lit (pos 2) :* xm :* (s :* s :* s)) tt xm x0 x1 x2 s
+
+  pub cubic-at-xm : numerator (kernelOf 3) (four xm x0 x1 x2) (negℤ s) s ≡ pos 6 *ℤ xm *ℤ u⁰
+  unfolding kernelOf numerator polynomial column
+  cubic-at-xm = identity 5 (λ xm x0 x1 x2 s. numeratorE (kernelOf 3) (four xm x0 x1 x2) (neg s) s := lit (pos 6) :* xm :* (s :* s :* s)) tt xm x0 x1 x2 s
+
+  pub cubic-at-x2 : numerator (kernelOf 3) (four xm x0 x1 x2) (pos 2 *ℤ s) s ≡ pos 6 *ℤ x2 *ℤ u⁰
+  unfolding kernelOf numerator polynomial column
+  cubic-at-x2 = identity 5 (λ xm x0 x1 x2 s. numeratorE (kernelOf 3) (four xm x0 x1 x2) (lit (pos 2) :* s) s := lit (pos 6) :* x2 :* (s :* s :* s)) tt xm x0 x1 x2 s
+
 -- ---- source document 002, equation (4), which sums x(m_k − i) b_ℓ(i) μ_k^ℓ over i and ℓ: the coefficients b_ℓ(i), ℓ = 0 to 3, times the denominator. Index i is sample b − i, at the place 1 − i
 abbrev taps : Kernel → ℕ → List ℤ
 taps κ place = κ .coefficient 0 place ∷ κ .coefficient 1 place ∷ κ .coefficient 2 place ∷ κ .coefficient 3 place ∷ []

@@ -164,7 +164,7 @@ module _ (s : Stream) (u : List ℕ) (ended : Bool) where
   unfolding refuses
   refuses-step l g y n e f =
       by-test (Stepped s u g ended) (eqb n 6 && not ended && ltb (length u) 270)
-      (λ t. asks-step g next.Read tt y)
+      (λ t. asks-step g _ tt y)
       (λ t. done refl (λ more z. f t more (refused-more l u e ended t more z)))
 
   -- the K line
@@ -260,7 +260,7 @@ module _ (s : Stream) (u : List ℕ) (ended : Bool) where
 
   pub step : (room : ℕ) (g : Stage) → Stands s u g → Stepped s u g ended (turnOf s u ended room)
   unfolding turnOf
-  step room g y = by-test (Stepped s u g ended) (ltb room 34) (λ t. asks-step g next.Write tt y) (λ t. go g y)
+  step room g y = by-test (Stepped s u g ended) (ltb room 34) (λ t. asks-step g _ tt y) (λ t. go g y)
     where
       go : (g : Stage) → Stands s u g → Stepped s u g ended (cond (s .started)
           (cond (ended && eqb (length u) 0) (ends s (endLine (s .outputs) (s .clips))) (dataTurn s (dataLine 64 u) u ended room))
