@@ -62,9 +62,9 @@ def specs(crate):
     return sections, out
 
 
-# A declaration in src/: from its comment to before the mark that ends it.
-def declared(crate, pattern, end):
-    for path in sorted((folder(crate) / "src").rglob("*.rt")):
+# A declaration in src/, or in one file of it: from its comment to before the mark that ends it.
+def declared(crate, pattern, end, file="**/*"):
+    for path in sorted((folder(crate) / "src").glob(f"{file}.rt")):
         lines = read(path).splitlines()
         for at, line in enumerate(lines):
             if re.match(pattern, line):
@@ -77,17 +77,36 @@ def declared(crate, pattern, end):
     return None, None
 
 
-# What src/lib.rt exports: the contracts of functions, with their files, and the names of all.
+def declared_type(crate, name, file="**/*"):
+    return declared(crate, rf"pub (struct|enum) {name}\b", "}", file)
+
+
+# The contracts of the functions that src/lib.rt exports, and of the methods of the types that it exports, with their files.
 def exported(crate):
     path = folder(crate) / "src" / "lib.rt"
-    text = read(path) if path.is_file() else ""
-    names = re.findall(r"^pub (?:use \S*?|(?:extern \"C\" )?fn |struct |enum )(\w+)(?:;|[(<]| \{)", text, re.M)
-    found = [declared(crate, rf'pub (extern "C" )?fn {name}\b', "{") for name in names]
-    for source in sorted((folder(crate) / "src").rglob("*.rt")):
-        for kind, body in re.findall(r"^impl (\w+) \{(.*?)^\}", read(source), re.M | re.S):
-            if kind in names:
-                found += [declared(crate, rf"    pub fn {name}\b", "{") for name in re.findall(r"^    pub fn (\w+)", body, re.M)]
-    return [(block, source) for block, source in found if block]
+    result = []
+    for line in read(path).splitlines() if path.is_file() else []:
+        of, item = re.match(r"pub use (\w+)::(\w+);", line), EXPORTED.match(line)
+        if not of and not item:
+            if line.startswith("pub "):
+                fail(f"{crate}/src/lib.rt: an export that cannot be read: {line}")
+            continue
+        file, name = (of[1], of[2]) if of else ("lib", item[2])
+        found, source = declared(crate, rf'pub (extern "C" )?fn {name}\b', "{", file)
+        if found:
+            result.append((found, source))
+            continue
+        kind, source = declared_type(crate, name, file)
+        if not kind:
+            fail(f"{crate}/src/lib.rt exports {name}, which is no function or type of src/{file}.rt")
+        for body in re.findall(rf"^impl {name} \{{(.*?)^\}}", read(source), re.M | re.S):
+            for method in re.findall(r"^    pub fn (\w+)", body, re.M):
+                result.append(declared(crate, rf"    pub fn {method}\b", "{", source.stem))
+                result[-1][0].says.append(f"It is a method of `{name}`.")
+    for block, _ in result:
+        if "ensures" not in "\n".join(block.code):
+            fail(f"{crate}: {block.name} is exported with no ensures clause")
+    return result
 
 
 # Why a use cannot stand, if what it cites is not listed.
@@ -120,12 +139,12 @@ def chapters():
         for block, source in promised[c]:
             contract = "\n".join(block.code)
             faults += [missing(c, use, listed, types, contract) for use in re.findall(r"^ghost use (.*);", read(source), re.M)]
-            types |= {(c, n) for n in re.findall(r"\b[A-Z]\w+", contract.split("ensures")[0]) if declared(c, rf"pub (struct|enum) {n}\b", "}")[0]}
+            types |= {(c, n) for n in re.findall(r"\b[A-Z]\w+", contract.split("ensures")[0]) if declared_type(c, n)[0]}
     if any(faults):
         fail("\n".join(sorted({f for f in faults if f})))
     result = []
     for c in crates():
-        kinds = [declared(c, rf"pub (struct|enum) {n}\b", "}") for of, n in sorted(types) if of == c]
+        kinds = [declared_type(c, n) for of, n in sorted(types) if of == c]
         if None in (block for block, _ in kinds):
             fail(f"{c}: a type that the definitions speak of is not in src/: {sorted(types)}")
         order = sorted(kinds, key=lambda k: (k[1].name, read(k[1]).index(k[0].code[0])))

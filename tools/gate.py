@@ -78,7 +78,7 @@ def row(*columns):
     return "| " + " | ".join(str(column) for column in columns) + " |"
 
 
-# Writes a page, or says whether it is there as it would be written.
+# Writes a page, and says so.
 def write(path, text):
     path.parent.mkdir(parents=True, exist_ok=True)
     path.write_text(text, encoding="utf-8")
