@@ -114,6 +114,62 @@ fn rates() {
     );
 }
 
+// A number behind its name.
+fn number(name: &[u8], n: u64) {
+    io::write_all(STDOUT_FILENO, name);
+    io::print_decimal(STDOUT_FILENO, n);
+}
+
+// A D line of two samples and the D that follows it, read by both calls.
+fn data_line(description: &[u8], samples: &mut [i16]) {
+    let line: &[u8] = b"DFEDCBA980280007FFFD4\nD";
+    io::write_all(STDOUT_FILENO, description);
+    let d = reader::read_data(line, samples);
+    number(b": refusal ", d.refusal as u64);
+    number(b", sequence ", d.sequence as u64);
+    number(b", count ", d.count as u64);
+    let rest = reader::rest_data(line, samples);
+    number(b", bytes left ", rest.len() as u64);
+    io::write_all(STDOUT_FILENO, b"\n");
+}
+
+// The same of a K line.
+fn start_line(description: &[u8], line: &[u8]) {
+    io::write_all(STDOUT_FILENO, description);
+    let k = reader::read_start(line);
+    number(b": refusal ", k.refusal as u64);
+    number(b", kernel ", k.kernel as u64);
+    number(b", word ", k.word);
+    number(b", phase ", k.phase as u64);
+    let rest = reader::rest_start(line);
+    number(b", bytes left ", rest.len() as u64);
+    io::write_all(STDOUT_FILENO, b"\n");
+}
+
+// The places of the buffer, as 16 bits.
+fn places(samples: &[i16; 3]) {
+    number(b"D line, the places: ", integers::bits(samples[0]) as u64);
+    number(b" ", integers::bits(samples[1]) as u64);
+    number(b" ", integers::bits(samples[2]) as u64);
+    io::write_all(STDOUT_FILENO, b"\n");
+}
+
+fn short_buffer() {
+    let mut samples = [7i16; 1];
+    data_line(b"D line, one place", &mut samples);
+}
+
+fn long_buffer() {
+    let mut samples = [7i16; 3];
+    data_line(b"D line, three places", &mut samples);
+    places(&samples);
+}
+
+fn start_lines() {
+    start_line(b"K line", b"K3123456789FEDCBA98\nD");
+    start_line(b"K line, kernel 4", b"K4123456789FEDCBA98\nD");
+}
+
 fn main() {
     settled_ratios();
     settled_empty();
@@ -121,4 +177,7 @@ fn main() {
     rounded_ratios();
     words();
     rates();
+    short_buffer();
+    long_buffer();
+    start_lines();
 }
