@@ -16,12 +16,15 @@ pub record Frame : Type 0 where
   pub sequence : ℕ
   pub samples : List ℤ
 
--- "8 digits sequence number, 2 digits count"
+-- "8 digits sequence number, 2 digits count (1 to 64)"
 abbrev pub sequenceOf : List ℕ → ℕ
 sequenceOf ds = field 0 8 ds
 
 abbrev pub countOf : List ℕ → ℕ
 countOf ds = field 8 2 ds
+
+abbrev pub countLimit : ℕ
+countLimit = 64
 
 -- "4 digits for each sample in two's complement": sample i, and the first n
 abbrev pub sampleAt : List ℕ → ℕ → ℤ
@@ -33,7 +36,7 @@ samplesOf (suc n) ds = samplesOf n ds ++ (sampleAt ds n ∷ [])
 
 -- refusal 9 otherwise: "D: under 12, count 0 or above 64, or not 12 + 4 times count"
 unfoldable pub hasLength : List ℕ → Bool
-hasLength ds = leb 12 (length ds) && leb 1 (countOf ds) && leb (countOf ds) 64 && eqb (length ds) (12 + countOf ds * 4)
+hasLength ds = leb 12 (length ds) && leb 1 (countOf ds) && leb (countOf ds) countLimit && eqb (length ds) (12 + countOf ds * 4)
 
 -- refusal 10 otherwise: "these bytes, check included, sum to 0 modulo 256"
 unfoldable pub checkHolds : List ℕ → Bool

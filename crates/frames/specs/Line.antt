@@ -12,12 +12,15 @@ before10 [] = 0
 before10 (b ∷ bs) = cond (eqb b 10) 0 (suc (before10 bs))
 
 -- "ending in byte 10, which must be among the first 270 bytes": the place of that byte, counted from 0
+abbrev pub lineLimit : ℕ
+lineLimit = 270
+
 unfoldable pub lineEnd : List ℕ → ℕ
-lineEnd bs = before10 (take 270 bs)
+lineEnd bs = before10 (take lineLimit bs)
 
 -- there is one: the search stops before the bytes do
 unfoldable pub hasEnd : List ℕ → Bool
-hasEnd bs = ltb (lineEnd bs) (length (take 270 bs))
+hasEnd bs = ltb (lineEnd bs) (length (take lineLimit bs))
 
 -- ---- digits
 -- "0-9, A-F": the value of a digit, and 16 of every other character

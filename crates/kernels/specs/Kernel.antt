@@ -23,6 +23,7 @@ four a b c d (suc zero) = b
 four a b c d (suc (suc zero)) = c
 four a b c d (suc (suc (suc n))) = d
 
+-- minus n
 abbrev pub − : ℕ → ℤ
 − n = negℤ (pos n)
 

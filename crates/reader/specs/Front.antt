@@ -6,12 +6,12 @@ use Prim.Native.Nat.{ℕ, _≤_, _<_}
 use lib.ListN.{length}
 use Rattle.frames.proofs.Lines.{between}
 use Rattle.reader.specs.declared.line.Front.{Front}
-use Rattle.frames.specs.Line.{Read, read, refused, lineEnd, allDigits, lineDigits}
+use Rattle.frames.specs.Line.{lineLimit, Read, read, refused, lineEnd, allDigits, lineDigits}
 
 -- `read_front`, by what the line's digits come to
 abbrev pub FrontIs : Read (List ℕ) → List ℕ → Front → Type 0
 FrontIs (read ds) bs f =
-    (f .refusal ≡ 0) × (f .end ≡ lineEnd bs) × (1 ≤ f .end) × (f .end < length bs) × (f .end < 270) × (between (f .end) bs ≡ ds) × (allDigits ds ≡ true)
+    (f .refusal ≡ 0) × (f .end ≡ lineEnd bs) × (1 ≤ f .end) × (f .end < length bs) × (f .end < lineLimit) × (between (f .end) bs ≡ ds) × (allDigits ds ≡ true)
 FrontIs (refused n) bs f = (f .refusal ≡ n) × (1 ≤ n)
 
 abbrev pub FrontRight : ℕ → List ℕ → Front → Type 0

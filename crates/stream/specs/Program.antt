@@ -11,7 +11,7 @@ use Rattle.kernels.specs.Value.{value}
 use Rattle.converter.specs.Paper.{first, count}
 use Rattle.converter.specs.Demand.{clipsAt}
 use Rattle.frames.specs.Line.{Read, read, refused, digitsOf, rest}
-use Rattle.frames.specs.Frame.{Frame, dataLine}
+use Rattle.frames.specs.Frame.{Frame, countLimit, dataLine}
 use Rattle.frames.specs.Start.{Start, startLine}
 
 -- ---- lines
@@ -26,6 +26,10 @@ outputLines (y ∷ ys) = outputLine y ++ outputLines ys
 -- "`E`, 16 digits of outputs, 16 digits of clips (both modulo 2^64)". Byte 69 is `E`
 unfoldable pub endLine : ℕ → ℕ → List ℕ
 endLine outputs clips = 69 ∷ digitsOf 16 (outputs % 2 ^ 64) ++ digitsOf 16 (clips % 2 ^ 64) ++ (10 ∷ [])
+
+-- how long that is: the longest line that ends a run
+abbrev pub endLength : ℕ
+endLength = 34
 
 -- "`R` and two decimal digits". Byte 82 is `R`, and 48 is `0`
 unfoldable pub refusalLine : ℕ → List ℕ
@@ -46,11 +50,11 @@ abbrev pub receivedBy : Read Frame → Received → Received
 receivedBy (read f) follows = joining (f .samples) follows
 receivedBy (refused n) follows = record { samples = []; refusal = n }
 
--- "then D lines from standard input", at most f of them; there are no more lines than bytes (law `received-next`). The program's sample buffer holds 64, the most that a line has
+-- "then D lines from standard input", at most f of them; there are no more lines than bytes (law `received-next`). The program's sample buffer holds as many samples as a line has at the most
 unfoldable pub receivedIn : ℕ → List ℕ → Received
 receivedIn zero bs = record { samples = []; refusal = 0 }
 receivedIn (suc f) [] = record { samples = []; refusal = 0 }
-receivedIn (suc f) (b ∷ bs) = let line = dataLine 64 (b ∷ bs) in receivedBy line (receivedIn f (rest line (b ∷ bs)))
+receivedIn (suc f) (b ∷ bs) = let line = dataLine countLimit (b ∷ bs) in receivedBy line (receivedIn f (rest line (b ∷ bs)))
 
 unfoldable pub received : List ℕ → Received
 received bs = receivedIn (length bs) bs

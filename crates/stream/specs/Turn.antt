@@ -9,14 +9,14 @@ use lib.ListN.{length, drop}
 use Rattle.oscillator.specs.declared.settings.Setting.the-variants as setting
 use Rattle.converter.specs.Start.{noState, started}
 use Rattle.converter.specs.Feeding.{HUNGRY, Answer, fedOf, outputsOf, over}
-use Rattle.frames.specs.Line.{Read, read, refused, used}
-use Rattle.frames.specs.Frame.{Frame, dataLine}
+use Rattle.frames.specs.Line.{lineLimit, Read, read, refused, used}
+use Rattle.frames.specs.Frame.{Frame, countLimit, dataLine}
 use Rattle.frames.specs.Start.{Start, startLine}
 use Rattle.stream.specs.declared.turn.Stream.{Stream}
 use Rattle.stream.specs.declared.turn.Turn.{Turn}
 use Rattle.stream.specs.declared.turn.Next.{Next}
 use Rattle.stream.specs.declared.turn.Next.the-variants as next
-use Rattle.stream.specs.Program.{outputLines, endLine, refusalLine}
+use Rattle.stream.specs.Program.{outputLines, endLine, endLength, refusalLine}
 
 -- the stream before the K line
 abbrev pub opened : Stream
@@ -38,7 +38,7 @@ ends s line = record { stream = s; used = 0; text = line; next = next.Done }
 
 -- refusal n of a line, of which `have` bytes are at hand: where it is 6 and the line may still end, more input is asked for instead
 unfoldable pub refuses : Stream → ℕ → ℕ → Bool → Result
-refuses s n have ended = cond (eqb n 6 && not ended && ltb have 270) (asks s next.Read) (ends s (refusalLine n))
+refuses s n have ended = cond (eqb n 6 && not ended && ltb have lineLimit) (asks s next.Read) (ends s (refusalLine n))
 
 -- by the K line that the bytes begin with
 abbrev pub startTurn : Stream → Read Start → List ℕ → Bool → Result
@@ -81,11 +81,11 @@ dataTurn s (read f) bs ended room =
     feedTurn s (used (read f) bs) (fedOf (s .state) xs (spaceIn room)) (outputsOf (s .state) xs (spaceIn room))
 dataTurn s (refused n) bs ended room = refuses s n (length bs) ended
 
--- a turn over the unread bytes bs, where the input has ended or may go on, with room for so many bytes of text: 34, the longest of the other lines, are asked for first
+-- a turn over the unread bytes bs, where the input has ended or may go on, with room for so many bytes of text: room for the longest of the other lines is asked for first
 unfoldable pub turnOf : Stream → List ℕ → Bool → ℕ → Result
-turnOf s bs ended room = cond (ltb room 34) (asks s next.Write)
+turnOf s bs ended room = cond (ltb room endLength) (asks s next.Write)
     (cond (s .started)
-    (cond (ended && eqb (length bs) 0) (ends s (endLine (s .outputs) (s .clips))) (dataTurn s (dataLine 64 bs) bs ended room))
+    (cond (ended && eqb (length bs) 0) (ends s (endLine (s .outputs) (s .clips))) (dataTurn s (dataLine countLimit bs) bs ended room))
     (startTurn s (startLine bs) bs ended))
 
 -- what the call returns

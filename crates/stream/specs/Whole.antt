@@ -5,11 +5,11 @@ use mathlib.Core.Bool.{Bool, true, false, _||_}
 use mathlib.Core.List.{List, [], _∷_, _++_}
 use Prim.Native.Nat.{ℕ, _+_, _≤_, _<_}
 use lib.ListN.{length, take, drop}
-use Rattle.frames.specs.Line.{hasEnd}
+use Rattle.frames.specs.Line.{lineLimit, hasEnd}
 use Rattle.stream.specs.declared.turn.Stream.{Stream}
 use Rattle.stream.specs.declared.turn.Turn.{Turn}
 use Rattle.stream.specs.declared.turn.Next.the-variants as next
-use Rattle.stream.specs.Program.{program}
+use Rattle.stream.specs.Program.{endLength, program}
 use Rattle.stream.specs.Turn.{opened, turnOf, TurnRight}
 
 -- What the caller does: bytes come in, or a turn is made over the bytes that are unread, with room for text that held `old` and holds `left` when the turn returns. `ended` says that no
@@ -62,11 +62,11 @@ abbrev pub Whole : Type 0
 Whole = (ms : List Move) → Seen opened [] ms → Right ms
 
 -- A caller that does what it is asked never waits for nothing: a turn that asks for nothing has used bytes or written some; one asks for input only where no line is at hand and one may
--- still come, and for room only where there is less than 34. And it uses no more bytes than there are, and writes no more than there is room for.
+-- still come, and for room only where the line that ends a run may not fit. And it uses no more bytes than there are, and writes no more than there is room for.
 pub record Goes (s : Stream) (bs : List ℕ) (ended : Bool) (room : ℕ) : Type 0 where
   pub again : turnOf s bs ended room .next ≡ next.Again → 0 < turnOf s bs ended room .used + length (turnOf s bs ended room .text)
-  pub reads : turnOf s bs ended room .next ≡ next.Read → (ended ≡ false) × (hasEnd bs ≡ false) × (length bs < 270)
-  pub writes : turnOf s bs ended room .next ≡ next.Write → room < 34
+  pub reads : turnOf s bs ended room .next ≡ next.Read → (ended ≡ false) × (hasEnd bs ≡ false) × (length bs < lineLimit)
+  pub writes : turnOf s bs ended room .next ≡ next.Write → room < endLength
   pub used : turnOf s bs ended room .used ≤ length bs
   pub written : length (turnOf s bs ended room .text) ≤ room
 

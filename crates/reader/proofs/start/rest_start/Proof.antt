@@ -1,6 +1,7 @@
 -- `reader::start::rest_start` meets its contract. Assumes nothing.
 use borrow.Author.Needs.{needs}
 use mathlib.Core.Path.{_≡_, refl, ap, _∙_}
+use native.Mathlib.Omega.{arith}
 use denote.Ref.{now}
 use Rattle.frames.specs.Line.{Read, used}
 use Rattle.frames.specs.Start.{Start, startLine}
@@ -20,7 +21,9 @@ returns c =
     (t .0, (refl, t .1))
 
 tail-requires : tie.Need-tail-requires
-tail-requires c κs = start-taken (now (c .before .before .before .before .args .line)) _ (c .before .before .read-start .ensures) (c .if1 .left) .2 .whole
+tail-requires c κs =
+    let t = start-taken (now (c .before .before .before .before .args .line)) _ (c .before .before .read-start .ensures) (c .if1 .left) in
+    omega (arith, t .2 .whole)
 
 returns-2 : tie.Need-returns-2
 returns-2 c =
