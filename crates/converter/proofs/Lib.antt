@@ -3,6 +3,7 @@ pub mod Turns
 pub mod Runs
 pub mod Feeds
 pub mod Count
+pub mod Amounts
 pub mod PaperRun
 pub mod Follows
 pub mod Third
