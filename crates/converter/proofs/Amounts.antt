@@ -41,7 +41,7 @@ module _ (κ : Kernel) (w q : ℕ) (h : 1 ≤ w) where
       before-only (count-first κ w q n h) (record {
         before = λ i l. below-limit κ (ahead q w i) n .1 (omega (arith, ahead-sum q w i, ceiling-before (limit κ n - q) w h i l));
         first = elim (decLt (lastRead κ (ahead q w c)) n) [
-          yes l ↦ absurd (omega (arith, below-limit κ (ahead q w c) n .0 l, ahead-sum q w c, ceiling-first (limit κ n - q) w h))
+          | yes l ↦ absurd (omega (arith, below-limit κ (ahead q w c) n .0 l, ahead-sum q w c, ceiling-first (limit κ n - q) w h))
           | no l ↦ omega arith
         ];
       })
@@ -53,7 +53,7 @@ module _ (κ : Kernel) (w q : ℕ) (h : 1 ≤ w) where
       let c : ℕ = ceiling (m * 2 ^ 32) w in
       let few : a ≤ m * 2 ^ 32 = nearer in
       elim (decLt c (count κ w q (n + m))) [
-        yes k ↦ absurd (omega (arith, ceiling-before a w h c (omega (arith, k, outputs-are (n + m))), ceiling-first (m * 2 ^ 32) w h, few))
+        | yes k ↦ absurd (omega (arith, ceiling-before a w h c (omega (arith, k, outputs-are (n + m))), ceiling-first (m * 2 ^ 32) w h, few))
         | no k ↦ omega arith
       ]
     where
@@ -62,6 +62,6 @@ module _ (κ : Kernel) (w q : ℕ) (h : 1 ≤ w) where
 
       nearer : limit κ (n + m) - q ≤ m * 2 ^ 32
       nearer = elim (decLt q (limit κ n)) [
-        yes k ↦ absurd (omega (arith, below-limit κ q n .1 k, l))
+        | yes k ↦ absurd (omega (arith, below-limit κ q n .1 k, l))
         | no k ↦ plain q n m (half (κ .nearest)) (κ .reach) (omega arith)
       ]
