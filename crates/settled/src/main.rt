@@ -1,5 +1,5 @@
 // Runs the settled examples of document 01 that are not starred, those on ratios and the one on empty buffers, then settings at the edges of the rules, and both calls of the readers
-// of lines, and prints what it finds, a line for each. The file `stdout` has what document 01 says. The starred examples are theorems, in specs/Starred.antt.
+// of lines, and prints what it finds, a line for each. The file `stdout` has what document 01 says. The starred examples are one theorem, of the crate `starred`.
 use converter::End;
 use converter::State;
 use libc::STDOUT_FILENO;

@@ -32,6 +32,11 @@ pub too-few : program (start 14) ≡ 82 ∷ 48 ∷ 57 ∷ 10 ∷ []
 unfolding before10 lineEnd hasEnd digitValue allDigits afterLetter lineDigits startOf startLine refusalLine program
 too-few = refl
 
+-- "`R` and two decimal digits": `R01` and `R10`
+pub refusals : (refusalLine 1 ≡ 82 ∷ 48 ∷ 49 ∷ 10 ∷ []) × (refusalLine 10 ≡ 82 ∷ 49 ∷ 48 ∷ 10 ∷ [])
+unfolding refusalLine
+refusals = (refl, refl)
+
 -- `0000`, `0032`, `0064`, `0046` and `E00000000000000040000000000000000`, a line each
 pub half-word : program (start 15 ++ frame) ≡ zeros 4 ++
     (10 ∷ 48 ∷ 48 ∷ 51 ∷ 50 ∷ 10 ∷ 48 ∷ 48 ∷ 54 ∷ 52 ∷ 10 ∷ 48 ∷ 48 ∷ 52 ∷ 54 ∷ 10 ∷ 69 ∷ (zeros 15 ++ (52 ∷ (zeros 16 ++ (10 ∷ [])))))

@@ -58,7 +58,7 @@ loop-less : tie.Need-loop-less Inv-loop μ-loop
 loop-less c =
     let j = c .before .before .before .before in
     let z = j .before .before .before in
-    block-less (at z .loop .inv) (z .feed-block .ensures) (j .joined .result) (j .joined .ensures) (ap endNumber (c .before .before .enum-told2 .given .1)) (c .if1 .left)
+    block-less (at z .loop .inv) (z .feed-block .ensures) (j .joined .result) (j .joined .ensures) (ap endNumber (c .before .before .enum-told2 .given .1)) (λ e. omega (arith, e, c .if1 .left))
 
 returns : tie.Need-returns Inv-loop μ-loop
 returns c =
