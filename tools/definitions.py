@@ -128,7 +128,7 @@ def missing(crate, use, listed, types, within=None):
 def chapters():
     defined, promised, out = {}, {c: exported(c) for c in crates()}, []
     for c in crates():
-        defined[c], names = specs(c) if (folder(c) / "specs").is_dir() else ([], [])
+        defined[c], names = specs(c) if (folder(c) / "specs" / "Lib.antt").is_file() else ([], [])
         out += [(c, n) for n in names]
     lost = [n for n in LEFT_OUT if sum(n in (name, f"{c}/{name}") for c, name in out) != 1]
     if lost:
