@@ -9,7 +9,7 @@ use borrow.Author.Tests.{eq-eqb, ne-eqb, lt-ltb, le-ltb, ltb-true}
 use lib.Dec.{eqb}
 use lib.ListN.{length, take, drop, getD, length-take}
 use lib.Seq.{take-nil, getD-take}
-use Rattle.frames.specs.Line.{read, refused, refuseUnless, before10, lineEnd, hasEnd, allDigits, afterLetter, lineDigits}
+use Rattle.frames.specs.Line.{read, refused, refuseUnless, before10, lineLimit, lineEnd, hasEnd, allDigits, afterLetter, lineDigits}
 use Rattle.frames.proofs.Hex.{at-place}
 
 -- ---- the byte 10
@@ -52,7 +52,10 @@ end-within bs end h = let l = length-take 270 bs in (omega arith, omega arith)
 -- ---- a line ends at a byte 10 among the first 270 bytes, and wherever there is one
 pub ends-within : (bs : List ℕ) → hasEnd bs ≡ true → (lineEnd bs < 270) × (lineEnd bs < length bs)
 unfolding hasEnd
-ends-within bs e = end-within bs (lineEnd bs) (ltb-true (lineEnd bs) (length (take 270 bs)) e)
+ends-within bs e =
+    let l = ltb-true (lineEnd bs) _ e in
+    let k = length-take lineLimit bs in
+    (omega arith, omega arith)
 
 before-le : (xs : List ℕ) (i : ℕ) → i < length xs → getD xs i 0 ≡ 10 → before10 xs ≤ i
 unfolding before10

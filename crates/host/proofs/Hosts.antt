@@ -3,6 +3,7 @@ use mathlib.Core.Path.{_≡_, ap, _∙_}
 use mathlib.Core.Bool.{Bool, true, false, _&&_}
 use mathlib.Core.List.{List, _++_}
 use Prim.Native.Nat.{ℕ, _%_, _≤_}
+use native.Mathlib.Omega.{arith}
 use borrow.Author.Tests.{leb-true, le-leb, eqb-true, eq-eqb, ne-eqb}
 use lib.Dec.{leb, eqb}
 use lib.ListN.{length, take, drop}
@@ -74,7 +75,7 @@ module _ (image : List ℕ) (a : Setting) where
 -- ---- feed
 -- refusal 12 in numbers, both ways
 pub buffer-is : (n : ℕ) → isBuffer n ≡ true → (n % 2 ≡ 0) × (n ≤ 65536)
-buffer-is n e = let h = both (eqb (n % 2) 0) (leb n 65536) e in (eqb-true (n % 2) 0 (h .0), leb-true n 65536 (h .1))
+buffer-is n e = let h = both (eqb (n % 2) 0) _ e in (eqb-true (n % 2) 0 (h .0), omega (arith, leb-true n _ (h .1)))
 
 pub is-buffer : (n : ℕ) → n % 2 ≡ 0 → n ≤ 65536 → isBuffer n ≡ true
 is-buffer n e h = rw (eq-eqb (n % 2) 0 e, le-leb n 65536 h)

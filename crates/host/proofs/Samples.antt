@@ -23,12 +23,6 @@ samples-long [] = refl
 samples-long (a ∷ []) = refl
 samples-long (a ∷ b ∷ bs) = let e = samples-long bs in omega arith
 
-pub samples-are : (bs : List ℕ) → Bytes bs → Samples (samplesOf bs)
-unfolding Bytes samplesOf Samples
-samples-are [] h = tt
-samples-are (a ∷ []) h = tt
-samples-are (a ∷ b ∷ bs) h = (signed-fits (number-below (a ∷ b ∷ []) (h .0, (h .1 .0, tt))), samples-are bs (h .1 .1))
-
 -- ---- one sample, and a part of them
 -- a sample more is two bytes more
 twice : (n : ℕ) → suc n * 2 ≡ suc (suc (n * 2))
@@ -42,6 +36,12 @@ sample-is (a ∷ b ∷ bs) zero h = refl
 sample-is (a ∷ b ∷ bs) (suc i) h =
     let e : suc i * 2 + 1 ≡ suc (suc (i * 2 + 1)) = omega arith in
     rw (e, twice) (sample-is bs i (omega arith))
+
+pub samples-are : (bs : List ℕ) → Bytes bs → Samples (samplesOf bs)
+unfolding Bytes samplesOf Samples
+samples-are [] h = tt
+samples-are (a ∷ []) h = tt
+samples-are (a ∷ b ∷ bs) h = (signed-fits (number-below (a ∷ b ∷ []) (h .0, (h .1 .0, tt))), samples-are bs (h .1 .1))
 
 samples-front : (bs : List ℕ) (n : ℕ) → samplesOf (take (n * 2) bs) ≡ take n (samplesOf bs)
 unfolding samplesOf
