@@ -1,4 +1,1 @@
-pub mod Start
-pub mod Feeding
-pub mod Paper
-pub mod Demand
+pub mod Pass

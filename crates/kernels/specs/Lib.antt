@@ -1,3 +1,1 @@
-pub mod Kernel
-pub mod Value
-pub mod Distance
+pub mod Scale

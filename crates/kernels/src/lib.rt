@@ -1,1 +1,11 @@
-// The four kernels: what an output is, and how far it may lie from the exact value. Definitions stand in specs/, their laws in proofs/; the functions are those of `interpolator`.
+// The interpolator: one coefficient table, the exact value of a kernel as a numerator, and the output, rounded once and held to 16 bits. The contracts cite the definitions of `kernels_spec`.
+mod filter;
+mod output;
+
+pub use filter::filter_fraction;
+pub use filter::nearest;
+pub use filter::numerator;
+pub use filter::reach;
+pub use filter::unit;
+pub use output::Output;
+pub use output::evaluate;

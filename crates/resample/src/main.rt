@@ -1,8 +1,8 @@
-// The program: frame lines from standard input, outputs to standard output. It moves bytes between the system and the library `stream`, which decides everything.
+// The program: frame lines from standard input, outputs to standard output. It moves bytes between the system and the library `program`, which decides everything.
 use libc::STDIN_FILENO;
 use libc::STDOUT_FILENO;
-use stream::Next;
-use stream::Stream;
+use program_spec::Next;
+use program_spec::Stream;
 ghost use mathlib.Core.Path.{_≡_};
 ghost use Prim.Native.Nat.{_-_, _≤_};
 ghost use lib.ListN.{length};
@@ -20,7 +20,7 @@ struct Standing {
 fn begin() -> Standing
     ensures { λ r. ⌜ (r .from ≤ r .to) × (r .to ≤ 65536) × (r .filled ≤ 65536) ⌝ }
 {
-    let stream = turns::open();
+    let stream = program::open();
     Standing {
         stream: stream,
         from: 0,
@@ -54,7 +54,7 @@ fn read_more(p: Standing, bytes: &mut [u8]) -> Standing
     ensures { λ r. ⌜ (r .stream ≡ p .stream) × (r .from ≡ 0) × (p .to - p .from ≤ r .to) × (r .filled ≡ p .filled) ⌝ }
 {
     let to = p.to;
-    turns::to_front(&mut bytes[..to], p.from);
+    program::to_front(&mut bytes[..to], p.from);
     let have = to - p.from;
     let got = libc::read(STDIN_FILENO, &mut bytes[have..]);
     let n = io::count(got, &bytes[have..]);
@@ -98,7 +98,7 @@ fn step(p: Standing, bytes: &mut [u8], text: &mut [u8]) -> Standing
     let to = p.to;
     let filled = p.filled;
     let before = p.stream;
-    let turn = turns::make_turn(before, &bytes[from..to], p.ended, &mut text[filled..]);
+    let turn = program::make_turn(before, &bytes[from..to], p.ended, &mut text[filled..]);
     let stream = turn.stream;
     let q = Standing {
         stream: stream,

@@ -6,17 +6,17 @@ use Prim.Native.Nat.{ℕ, _/_, _≤_}
 use native.Mathlib.Omega.{arith}
 use lib.IntN.{ℤ}
 use lib.ListN.{length}
-use Rattle.converter.specs.declared.state.State.{State}
-use Rattle.converter.specs.declared.feeding.Fed.{Fed}
-use Rattle.converter.specs.Start.{isState}
-use Rattle.converter.specs.Feeding.{Ran, rule, Answer, answerOf, fedOf, outputsOf, over}
-use Rattle.feeding.specs.Pass.{FedBy}
-use Rattle.converter.proofs.Runs.{rule-ending, ending-sizes, rule-clips}
-use Rattle.converter.proofs.Feeds.{fed-rule}
-use Rattle.host.specs.Bytes.{samplesOf, pairsOf}
-use Rattle.host.specs.Image.{imageOf, stateIn}
-use Rattle.host.specs.Host.{savedBy, imageFed, outputFed}
-use Rattle.host.proofs.Samples.{samples-long}
+use Rattle.converter_spec.specs.declared.state.State.{State}
+use Rattle.converter_spec.specs.declared.feeding.Fed.{Fed}
+use Rattle.converter_spec.specs.Start.{isState}
+use Rattle.converter_spec.specs.Feeding.{Ran, rule, Answer, answerOf, fedOf, outputsOf, over}
+use Rattle.converter.specs.Pass.{FedBy}
+use Rattle.converter_spec.proofs.Runs.{rule-ending, ending-sizes, rule-clips}
+use Rattle.converter_spec.proofs.Feeds.{fed-rule}
+use Rattle.host_spec.specs.Bytes.{samplesOf, pairsOf}
+use Rattle.host_spec.specs.Image.{imageOf, stateIn}
+use Rattle.host_spec.specs.Host.{savedBy, imageFed, outputFed}
+use Rattle.host_spec.proofs.Samples.{samples-long}
 use Rattle.resampler.specs.Feeding.{asPairs}
 
 module _ (input old : List ℕ) {after : List ℕ} {s : State} {f : Fed} (good : isState s ≡ true) (h : FedBy asPairs s (samplesOf input) old f after) where

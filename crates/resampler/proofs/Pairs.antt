@@ -7,12 +7,12 @@ use lib.IntN.{ℤ, pos}
 use lib.ListN.{length, take, drop, getD, length-take, length-drop}
 use lib.Seq.{getD-take, getD-drop}
 use Rattle.integers.specs.Sample.{signed}
-use Rattle.feeding.specs.Pass.{headOf}
-use Rattle.feeding.proofs.Passing.{Stored}
-use Rattle.host.specs.Bytes.{numberOf, samplesOf, pairOf}
+use Rattle.converter.specs.Pass.{headOf}
+use Rattle.converter.proofs.Passing.{Stored}
+use Rattle.host_spec.specs.Bytes.{numberOf, samplesOf, pairOf}
 use Rattle.resampler.specs.Feeding.{asPairs, joinedBytes, Joined}
-use Rattle.host.specs.Image.{savedOf, stateIn}
-use Rattle.host.proofs.Samples.{sample-is, samples-part}
+use Rattle.host_spec.specs.Image.{savedOf, stateIn}
+use Rattle.host_spec.proofs.Samples.{sample-is, samples-part}
 
 -- a sample is stored as its pair; z is the value as it is lent
 pub stored-two : {left left' : List ℕ} (i : ℕ) {v z : ℤ} → length left' ≡ length left → z ≡ v

@@ -6,9 +6,9 @@ use native.Mathlib.Omega.{arith}
 use lib.IntN.{ℤ, pos}
 use lib.ListN.{length, take, drop, getD}
 use lib.Seq.{take-all, drop-cons}
-use Rattle.host.specs.Bytes.{bytesOf, samplesOf, pairOf, pairsOf}
-use Rattle.host.proofs.Samples.{samples-long, samples-part}
-use Rattle.feeding.specs.Pass.{windowFrom}
+use Rattle.host_spec.specs.Bytes.{bytesOf, samplesOf, pairOf, pairsOf}
+use Rattle.host_spec.proofs.Samples.{samples-long, samples-part}
+use Rattle.converter.specs.Pass.{windowFrom}
 
 window-part : (xs : List ℤ) (b : ℕ) → b + 4 ≤ length xs → windowFrom xs b ≡ take 4 (drop b xs)
 window-part xs b h =

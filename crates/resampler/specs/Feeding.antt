@@ -3,9 +3,9 @@ use mathlib.Core.Path.{_≡_}
 use mathlib.Core.List.{List, [], _∷_}
 use Prim.Native.Nat.{ℕ, _+_, _*_}
 use lib.ListN.{take, getD}
-use Rattle.converter.specs.declared.state.State.{State}
-use Rattle.feeding.specs.Pass.{Layout, headOf, joinedOf}
-use Rattle.host.specs.Bytes.{samplesOf, pairOf}
+use Rattle.converter_spec.specs.declared.state.State.{State}
+use Rattle.converter.specs.Pass.{Layout, headOf, joinedOf}
+use Rattle.host_spec.specs.Bytes.{samplesOf, pairOf}
 
 -- samples as they lie in the host's buffers
 abbrev pub asPairs : Layout ℕ

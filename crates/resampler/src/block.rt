@@ -1,18 +1,18 @@
 // Block feeding over byte pairs: one pass over the window and the first samples of the input, and one over the input itself.
 use crate::bytes::window_at;
 use crate::pass::pass_by;
-use converter::End;
-use converter::Fed;
-use converter::State;
-use feeding::Progress;
+use converter::Progress;
+use converter_spec::End;
+use converter_spec::Fed;
+use converter_spec::State;
 ghost use mathlib.Core.Path.{_≡_};
 ghost use mathlib.Core.Bool.{true};
 ghost use Prim.Native.Nat.{_+_, _*_, _^_, _≤_, _<_};
 ghost use lib.ListN.{length, getD};
-ghost use Rattle.converter.specs.Start.{isState};
-ghost use Rattle.converter.specs.Feeding.{answerOf};
-ghost use Rattle.feeding.specs.Pass.{headOf, finishing, FedBy};
-ghost use Rattle.host.specs.Bytes.{samplesOf};
+ghost use Rattle.converter_spec.specs.Start.{isState};
+ghost use Rattle.converter_spec.specs.Feeding.{answerOf};
+ghost use Rattle.converter.specs.Pass.{headOf, finishing, FedBy};
+ghost use Rattle.host_spec.specs.Bytes.{samplesOf};
 ghost use Rattle.resampler.specs.Feeding.{asPairs, joinedBytes, Joined};
 
 // A byte, or zero past the last.

@@ -4,8 +4,8 @@ ghost use mathlib.Core.List.{_++_};
 ghost use Prim.Native.Nat.{_+_, _*_, _^_, _≤_, _<_};
 ghost use lib.IntN.{pos};
 ghost use lib.ListN.{length, take, drop, getD};
-ghost use Rattle.feeding.specs.Pass.{windowFrom};
-ghost use Rattle.host.specs.Bytes.{numberOf, numberAt, bytesOf, pairOf, samplesOf};
+ghost use Rattle.converter.specs.Pass.{windowFrom};
+ghost use Rattle.host_spec.specs.Bytes.{numberOf, numberAt, bytesOf, pairOf, samplesOf};
 
 // The number that the bytes write.
 fn number(bytes: &[u8]) -> u64

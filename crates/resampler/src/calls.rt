@@ -5,17 +5,17 @@ use crate::image::decode;
 use crate::image::encode;
 use crate::image::is_forty;
 use crate::image::is_image;
-use converter::End;
-use host::Saved;
+use converter_spec::End;
+use host_spec::Saved;
 use oscillator::Setting;
 ghost use mathlib.Core.Path.{_≡_};
 ghost use mathlib.Core.Bool.{true};
 ghost use Prim.Native.Nat.{_≤_};
 ghost use lib.ListN.{length};
-ghost use Rattle.converter.specs.Feeding.{endNumber};
+ghost use Rattle.converter_spec.specs.Feeding.{endNumber};
 ghost use Rattle.oscillator.specs.declared.settings.Setting.the-variants as setting;
-ghost use Rattle.host.specs.Image.{isImage};
-ghost use Rattle.host.specs.Host.{isBuffer, reply, feedReply, hostStart, hostRetune, hostFeed, imageFed, outputFed};
+ghost use Rattle.host_spec.specs.Image.{isImage};
+ghost use Rattle.host_spec.specs.Host.{isBuffer, reply, feedReply, hostStart, hostRetune, hostFeed, imageFed, outputFed};
 
 // What refusal 12 asks of a buffer's length.
 fn is_buffer(n: usize) -> bool
@@ -82,7 +82,7 @@ fn start_by(image: &mut [u8], kernel: u32, setting: Setting, phase: u32) -> u32
     if kernel > 3 {
         return 1;
     }
-    let started = converter::start(kernel as u8, setting, phase);
+    let started = converter_spec::start(kernel as u8, setting, phase);
     if started.refusal != 0 {
         return started.refusal as u32;
     }

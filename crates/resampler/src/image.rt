@@ -3,13 +3,13 @@ use crate::bytes::number_at;
 use crate::bytes::put_number;
 use crate::bytes::put_sample;
 use crate::bytes::window_at;
-use converter::State;
-use host::Saved;
+use converter_spec::State;
+use host_spec::Saved;
 ghost use mathlib.Core.Path.{_≡_};
 ghost use mathlib.Core.List.{_++_};
 ghost use lib.ListN.{length, take};
-ghost use Rattle.host.specs.Bytes.{pairsOf};
-ghost use Rattle.host.specs.Image.{isForty, isImage, frontOf, countsOf, imageOf, savedOf};
+ghost use Rattle.host_spec.specs.Bytes.{pairsOf};
+ghost use Rattle.host_spec.specs.Image.{isForty, isImage, frontOf, countsOf, imageOf, savedOf};
 
 // What an image holds.
 pub fn decode(image: &[u8]) -> Saved
@@ -60,7 +60,7 @@ pub fn is_image(image: &[u8]) -> bool
     }
     let saved = decode(image);
     let state = saved.state;
-    converter::is_state(state)
+    converter_spec::is_state(state)
 }
 
 // Writes bytes 0 to 15: kernel, needed count, two zero bytes, register, word.

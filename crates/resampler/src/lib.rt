@@ -1,4 +1,4 @@
-// The C library: host calls over byte buffers. `rt staticlib resampler` makes the archive, include/resampler.h declares the calls for C, and the contracts cite the definitions of `host`.
+// The C library: host calls over byte buffers. `rt staticlib resampler` makes the archive, include/resampler.h declares the calls for C, and the contracts cite the definitions of `host_spec`.
 mod block;
 mod bytes;
 mod calls;

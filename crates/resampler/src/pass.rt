@@ -1,11 +1,11 @@
 // A pass over samples that lie in one buffer as byte pairs: the converter's pass, with bytes read and written in the place of samples. It is proved by the converter's laws.
 use crate::bytes::put_sample;
 use crate::bytes::window_at;
-use feeding::Progress;
+use converter::Progress;
 ghost use Prim.Native.Nat.{_+_, _^_, _≤_, _<_};
 ghost use lib.ListN.{length};
-ghost use Rattle.feeding.specs.Pass.{passing, room, StretchRight, PassRight};
-ghost use Rattle.host.specs.Bytes.{samplesOf};
+ghost use Rattle.converter.specs.Pass.{passing, room, StretchRight, PassRight};
+ghost use Rattle.host_spec.specs.Bytes.{samplesOf};
 ghost use Rattle.resampler.specs.Feeding.{asPairs};
 
 // Goes on with a pass up to an output that is held, or until the samples or the space are spent.
@@ -13,7 +13,7 @@ fn stretch(kernel: u8, word: u64, from: Progress, samples: &[u8], output: &mut [
     requires { ⌜ (word ≤ 2 ^ 34) × (8 ≤ length (now samples)) × (from .at ≤ length (samplesOf (now samples))) × (from .clips ≤ from .written) × (from .written ≤ room asPairs (now output)) ⌝ }
     ensures { λ r. ⌜ StretchRight asPairs kernel word (samplesOf (now (samples .entry))) (now (output .entry)) from r (now (output .exit)) ⌝ }
 {
-    let nearest = interpolator::nearest(kernel);
+    let nearest = kernels::nearest(kernel);
     let end = samples.len() / 2 - 4;
     let space = output.len() / 2;
     let mut register = from.register;
@@ -21,7 +21,7 @@ fn stretch(kernel: u8, word: u64, from: Progress, samples: &[u8], output: &mut [
     let mut written = from.written;
     let mut held = false;
     while at <= end && written < space && !held {
-        let e = interpolator::evaluate(kernel, register, window_at(samples, at));
+        let e = kernels::evaluate(kernel, register, window_at(samples, at));
         put_sample(output, written, e.value);
         written = written + 1;
         held = e.clip;

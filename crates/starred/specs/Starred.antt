@@ -11,12 +11,12 @@ use Rattle.oscillator.specs.declared.settings.Setting.the-variants.{Word, Ratio
 use Rattle.oscillator.specs.Word.{word, refused, isWord, inRange, nearestWord, ratioWord, ratesWord, wordOf}
 use Rattle.oscillator.specs.Position.{position, basepoint, fraction, fourteenBits}
 use Rattle.oscillator.specs.Register.{registerOf, stepped, carryOf, topBitOf, advanceOf}
-use Rattle.kernels.specs.Kernel.{four, −, kernelOf}
-use Rattle.kernels.specs.Value.{column, polynomial, numerator, unit, nearestWhole, rounded, held, output, outside, clips, filterFraction, windowAt, outputOf, clipOf}
-use Rattle.converter.specs.declared.state.State.{State}
-use Rattle.converter.specs.Start.{isKernel, isState, lastRead, neededAt, started}
-use Rattle.converter.specs.Feeding.{advanced, taking, rule, fedOf, outputsOf}
-use Rattle.converter.specs.Paper.{countIn, count}
+use Rattle.kernels_spec.specs.Kernel.{four, −, kernelOf}
+use Rattle.kernels_spec.specs.Value.{column, polynomial, numerator, unit, nearestWhole, rounded, held, output, outside, clips, filterFraction, windowAt, outputOf, clipOf}
+use Rattle.converter_spec.specs.declared.state.State.{State}
+use Rattle.converter_spec.specs.Start.{isKernel, isState, lastRead, neededAt, started}
+use Rattle.converter_spec.specs.Feeding.{advanced, taking, rule, fedOf, outputsOf}
+use Rattle.converter_spec.specs.Paper.{countIn, count}
 
 -- the float 2^e, or −2^e
 abbrev power : Bool → ℤ → Float

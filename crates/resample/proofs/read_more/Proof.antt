@@ -9,7 +9,7 @@ use Rattle.resample.proofs.read_more.Reads as reads
 use Rattle.resample.proofs.read_more.Lts as lts
 use Rattle.io.proofs.count.Reads as count-reads
 use Rattle.libc.proofs.read.Reads as read-reads
-use Rattle.turns.proofs.to_front.Reads as to-front-reads
+use Rattle.program.proofs.to_front.Reads as to-front-reads
 
 slice-relend-prefix-to-front : tie.Need-slice-relend-prefix-to-front
 slice-relend-prefix-to-front c = search needs

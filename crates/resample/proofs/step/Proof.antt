@@ -1,12 +1,12 @@
 -- `resample::step` is safe. Assumes nothing.
 use borrow.Author.Needs.{needs}
-use Rattle.stream.proofs.Sizes.{turn-used, turn-written}
+use Rattle.program_spec.proofs.Sizes.{turn-used, turn-written}
 use Rattle.resample.proofs.step.Statement.{statement}
 use Rattle.resample.proofs.step.Tie as tie
 use Rattle.resample.proofs.step.Reads as reads
 use Rattle.resample.proofs.step.Lts as lts
 use Rattle.resample.proofs.serve.Reads as serve-reads
-use Rattle.turns.proofs.make_turn.Reads as make-turn-reads
+use Rattle.program.proofs.make_turn.Reads as make-turn-reads
 
 sub-make-turn : tie.Need-sub-make-turn
 sub-make-turn c = search needs

@@ -10,12 +10,12 @@ use lib.IntN.{ℤ}
 use lib.ListN.{length, take}
 use lib.Seq.{length-take-le}
 use denote.Ref.{now}
-use Rattle.converter.specs.declared.state.State.{State}
-use Rattle.converter.proofs.States.{Sound, is-state}
-use Rattle.feeding.proofs.Finishing.{begun, joint, first-fed, rest-fed, totals}
-use Rattle.host.specs.Bytes.{samplesOf}
+use Rattle.converter_spec.specs.declared.state.State.{State}
+use Rattle.converter_spec.proofs.States.{Sound, is-state}
+use Rattle.converter.proofs.Finishing.{begun, joint, first-fed, rest-fed, totals}
+use Rattle.host_spec.specs.Bytes.{samplesOf}
 use Rattle.resampler.specs.Feeding.{asPairs}
-use Rattle.host.proofs.Samples.{samples-long, pair-long}
+use Rattle.host_spec.proofs.Samples.{samples-long, pair-long}
 use Rattle.resampler.proofs.block.feed_bytes.Statement.{statement}
 use Rattle.resampler.proofs.block.feed_bytes.Tie as tie
 

@@ -8,11 +8,11 @@ use native.Mathlib.Omega.{arith}
 use lib.Dec.{leb}
 use lib.ListN.{length}
 use denote.Ref.{now}
-use Rattle.converter.specs.Feeding.{HUNGRY, FULL, endNumber}
-use Rattle.feeding.specs.Pass.{lastPlace, reached}
-use Rattle.feeding.proofs.Finishing.{kept-place, finish-is}
-use Rattle.host.specs.Bytes.{samplesOf}
-use Rattle.host.proofs.Samples.{samples-long}
+use Rattle.converter_spec.specs.Feeding.{HUNGRY, FULL, endNumber}
+use Rattle.converter.specs.Pass.{lastPlace, reached}
+use Rattle.converter.proofs.Finishing.{kept-place, finish-is}
+use Rattle.host_spec.specs.Bytes.{samplesOf}
+use Rattle.host_spec.proofs.Samples.{samples-long}
 use Rattle.resampler.proofs.block.finish.Statement.{statement}
 use Rattle.resampler.proofs.block.finish.Tie as tie
 

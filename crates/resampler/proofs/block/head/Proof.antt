@@ -1,7 +1,7 @@
 -- `resampler::block::head` meets its contract. Assumes nothing.
 use native.Mathlib.Omega.{arith}
 use denote.Ref.{now}
-use Rattle.host.proofs.Samples.{samples-long}
+use Rattle.host_spec.proofs.Samples.{samples-long}
 use Rattle.resampler.proofs.block.head.Statement.{statement}
 use Rattle.resampler.proofs.block.head.Tie as tie
 

@@ -6,8 +6,8 @@ use native.Mathlib.Nat.{sub-self, sub-zero}
 use native.Mathlib.Omega.{arith}
 use lib.ListN.{length, drop}
 use lib.Seq.{drop-length}
-use Rattle.host.specs.Bytes.{numberOf}
-use Rattle.host.proofs.Numbers.{byte-more, power-small, number-step}
+use Rattle.host_spec.specs.Bytes.{numberOf}
+use Rattle.host_spec.proofs.Numbers.{byte-more, power-small, number-step}
 use Rattle.resampler.proofs.bytes.number.Statement.{statement}
 use Rattle.resampler.proofs.bytes.number.Tie as tie
 

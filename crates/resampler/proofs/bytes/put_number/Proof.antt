@@ -6,8 +6,8 @@ use Prim.Native.Nat.{_+_, _-_, _≤_}
 use native.Mathlib.Nat.{add-zero, sub-zero, sub-self}
 use native.Mathlib.Omega.{arith}
 use lib.ListN.{length, take, drop, length-set}
-use Rattle.host.specs.Bytes.{bytesOf}
-use Rattle.host.proofs.Numbers.{bytes-step, kept-step}
+use Rattle.host_spec.specs.Bytes.{bytesOf}
+use Rattle.host_spec.proofs.Numbers.{bytes-step, kept-step}
 use Rattle.resampler.proofs.bytes.put_number.Statement.{statement}
 use Rattle.resampler.proofs.bytes.put_number.Tie as tie
 

@@ -5,7 +5,7 @@ use native.Mathlib.Omega.{arith}
 use lib.ListN.{length-set}
 use mir.Facts.{toZ-ofZ}
 use Rattle.integers.specs.Sample.{bits}
-use Rattle.host.proofs.Samples.{pair-put}
+use Rattle.host_spec.proofs.Samples.{pair-put}
 use Rattle.resampler.proofs.bytes.put_sample.Statement.{statement}
 use Rattle.resampler.proofs.bytes.put_sample.Tie as tie
 

@@ -7,8 +7,8 @@ use native.Mathlib.Omega.{arith}
 use lib.ListN.{getD}
 use mir.Facts.{toZ-ofZ}
 use Rattle.integers.specs.Sample.{signed}
-use Rattle.host.specs.Bytes.{numberOf}
-use Rattle.host.proofs.Samples.{sample-is}
+use Rattle.host_spec.specs.Bytes.{numberOf}
+use Rattle.host_spec.proofs.Samples.{sample-is}
 use Rattle.resampler.proofs.bytes.sample_at.Statement.{statement}
 use Rattle.resampler.proofs.bytes.sample_at.Tie as tie
 

@@ -5,10 +5,10 @@ use mathlib.Core.Bool.{true}
 use Prim.Native.Nat.{ℕ, _≤_}
 use native.Mathlib.Omega.{arith}
 use denote.Ref.{now}
-use Rattle.converter.specs.Start.{isState}
-use Rattle.host.specs.declared.image.Saved.{Saved}
-use Rattle.host.specs.Image.{imageOf, stateIn}
-use Rattle.host.proofs.Images.{is-image}
+use Rattle.converter_spec.specs.Start.{isState}
+use Rattle.host_spec.specs.declared.image.Saved.{Saved}
+use Rattle.host_spec.specs.Image.{imageOf, stateIn}
+use Rattle.host_spec.proofs.Images.{is-image}
 use Rattle.resampler.proofs.Pairs.{joined-is}
 use Rattle.resampler.proofs.FedBytes.{fed-sizes, fed-image, fed-output}
 use Rattle.resampler.proofs.calls.feed_image.Statement.{statement}

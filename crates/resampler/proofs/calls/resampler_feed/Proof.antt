@@ -6,9 +6,9 @@ use mathlib.Core.Bool.{Bool, true, false, _&&_}
 use mathlib.Core.Logic.{_⊎_, inl, inr, ⊎-elim}
 use lib.ListN.{length}
 use denote.Ref.{now}
-use Rattle.host.specs.Image.{isImage}
-use Rattle.host.specs.Host.{isBuffer, feedReply}
-use Rattle.host.proofs.Hosts.{buffer-is, feed-bad, feed-odd, feed-done}
+use Rattle.host_spec.specs.Image.{isImage}
+use Rattle.host_spec.specs.Host.{isBuffer, feedReply}
+use Rattle.host_spec.proofs.Hosts.{buffer-is, feed-bad, feed-odd, feed-done}
 use Rattle.resampler.proofs.calls.resampler_feed.Statement.{statement}
 use Rattle.resampler.proofs.calls.resampler_feed.Tie as tie
 

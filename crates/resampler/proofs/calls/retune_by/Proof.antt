@@ -4,13 +4,13 @@ use borrow.Author.Tests.{not-true, not-false}
 use mathlib.Core.Path.{_≡_, sym, ap, _∙_}
 use mathlib.Core.Bool.{true}
 use denote.Ref.{now}
-use Rattle.converter.specs.declared.state.Retuned.{Retuned}
-use Rattle.converter.specs.Start.{retuned}
-use Rattle.host.specs.declared.image.Saved.{Saved}
-use Rattle.host.specs.Image.{imageOf, stateIn, isImage}
-use Rattle.host.specs.Host.{reply, withState}
-use Rattle.host.proofs.Images.{is-image}
-use Rattle.host.proofs.Hosts.{retune-bad, retune-refused, retune-done}
+use Rattle.converter_spec.specs.declared.state.Retuned.{Retuned}
+use Rattle.converter_spec.specs.Start.{retuned}
+use Rattle.host_spec.specs.declared.image.Saved.{Saved}
+use Rattle.host_spec.specs.Image.{imageOf, stateIn, isImage}
+use Rattle.host_spec.specs.Host.{reply, withState}
+use Rattle.host_spec.proofs.Images.{is-image}
+use Rattle.host_spec.proofs.Hosts.{retune-bad, retune-refused, retune-done}
 use Rattle.resampler.proofs.calls.retune_by.Statement.{statement}
 use Rattle.resampler.proofs.calls.retune_by.Tie as tie
 

@@ -5,12 +5,12 @@ use mathlib.Core.Path.{_≡_, sym, ap, _∙_}
 use mathlib.Core.Bool.{true}
 use native.Mathlib.Omega.{arith}
 use denote.Ref.{now}
-use Rattle.converter.specs.declared.state.Started.{Started}
-use Rattle.converter.specs.Start.{started}
-use Rattle.converter.proofs.States.{start-kernel}
-use Rattle.host.specs.Image.{isForty, imageOf}
-use Rattle.host.specs.Host.{reply, uncounted}
-use Rattle.host.proofs.Hosts.{start-refused, start-short, start-done}
+use Rattle.converter_spec.specs.declared.state.Started.{Started}
+use Rattle.converter_spec.specs.Start.{started}
+use Rattle.converter_spec.proofs.States.{start-kernel}
+use Rattle.host_spec.specs.Image.{isForty, imageOf}
+use Rattle.host_spec.specs.Host.{reply, uncounted}
+use Rattle.host_spec.proofs.Hosts.{start-refused, start-short, start-done}
 use Rattle.resampler.proofs.calls.start_by.Statement.{statement}
 use Rattle.resampler.proofs.calls.start_by.Tie as tie
 

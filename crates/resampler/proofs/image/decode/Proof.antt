@@ -1,7 +1,7 @@
 -- `resampler::image::decode` meets its contract: the window is read sample by sample. Assumes nothing.
 use borrow.Author.Needs.{needs}
 use denote.Ref.{now}
-use Rattle.host.specs.Image.{savedOf}
+use Rattle.host_spec.specs.Image.{savedOf}
 use Rattle.resampler.proofs.Parts.{window-read}
 use Rattle.resampler.proofs.image.decode.Statement.{statement}
 use Rattle.resampler.proofs.image.decode.Tie as tie

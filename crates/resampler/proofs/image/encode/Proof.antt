@@ -1,8 +1,8 @@
 -- `resampler::image::encode` meets its contract. Assumes nothing.
 use mathlib.Core.List.{append-assoc}
 use borrow.Author.Needs.{needs}
-use Rattle.host.specs.Bytes.{pairsOf}
-use Rattle.host.specs.Image.{frontOf, countsOf, imageOf}
+use Rattle.host_spec.specs.Bytes.{pairsOf}
+use Rattle.host_spec.specs.Image.{frontOf, countsOf, imageOf}
 use Rattle.resampler.proofs.image.encode.Statement.{statement}
 use Rattle.resampler.proofs.image.encode.Tie as tie
 

@@ -5,10 +5,10 @@ use borrow.Author.Needs.{needs}
 use borrow.Author.Tests.{eqb-true, eq-eqb, ne-eqb, not-true, not-false}
 use denote.Ref.{now}
 use lib.ListN.{length}
-use Rattle.converter.specs.Start.{isState}
-use Rattle.host.specs.declared.image.Saved.{Saved}
-use Rattle.host.specs.Bytes.{numberAt}
-use Rattle.host.specs.Image.{isImage}
+use Rattle.converter_spec.specs.Start.{isState}
+use Rattle.host_spec.specs.declared.image.Saved.{Saved}
+use Rattle.host_spec.specs.Bytes.{numberAt}
+use Rattle.host_spec.specs.Image.{isImage}
 use Rattle.resampler.proofs.image.is_image.Statement.{statement}
 use Rattle.resampler.proofs.image.is_image.Tie as tie
 

@@ -5,8 +5,8 @@ use borrow.Author.Needs.{needs}
 use denote.Ref.{now}
 use lib.ListN.{take}
 use lib.Seq.{take-all}
-use Rattle.host.specs.Bytes.{bytesOf}
-use Rattle.host.specs.Image.{countsOf}
+use Rattle.host_spec.specs.Bytes.{bytesOf}
+use Rattle.host_spec.specs.Image.{countsOf}
 use Rattle.resampler.proofs.Parts.{behind}
 use Rattle.resampler.proofs.image.put_counts.Statement.{statement}
 use Rattle.resampler.proofs.image.put_counts.Tie as tie

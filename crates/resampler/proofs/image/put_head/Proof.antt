@@ -1,7 +1,7 @@
 -- `resampler::image::put_head` meets its contract: each number is written behind what was written before. Assumes nothing.
 use borrow.Author.Needs.{needs}
-use Rattle.host.specs.Bytes.{bytesOf}
-use Rattle.host.specs.Image.{frontOf}
+use Rattle.host_spec.specs.Bytes.{bytesOf}
+use Rattle.host_spec.specs.Image.{frontOf}
 use Rattle.resampler.proofs.image.put_head.Statement.{statement}
 use Rattle.resampler.proofs.image.put_head.Tie as tie
 

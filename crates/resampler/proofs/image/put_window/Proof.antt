@@ -8,7 +8,7 @@ use lib.IntN.{ℤ, pos}
 use lib.Signed.{mag}
 use lib.ListN.{take, getD}
 use Rattle.integers.specs.Sample.{signed, bits, signed-bits}
-use Rattle.host.specs.Bytes.{pairOf}
+use Rattle.host_spec.specs.Bytes.{pairOf}
 use Rattle.resampler.proofs.Parts.{behind, window-pairs}
 use Rattle.resampler.proofs.image.put_window.Statement.{statement}
 use Rattle.resampler.proofs.image.put_window.Tie as tie

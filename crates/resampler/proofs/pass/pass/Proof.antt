@@ -6,11 +6,11 @@ use Prim.Native.Nat.{ℕ, _+_, _-_}
 use native.Mathlib.Omega.{arith}
 use mir.Val.{boolByte}
 use denote.Ref.{now}
-use Rattle.feeding.specs.Pass.{passing, room}
-use Rattle.feeding.proofs.Passing.{passing-begins, Standing, standing-on, standing-less}
-use Rattle.host.specs.Bytes.{samplesOf}
+use Rattle.converter.specs.Pass.{passing, room}
+use Rattle.converter.proofs.Passing.{passing-begins, Standing, standing-on, standing-less}
+use Rattle.host_spec.specs.Bytes.{samplesOf}
 use Rattle.resampler.specs.Feeding.{asPairs}
-use Rattle.host.proofs.Samples.{samples-long}
+use Rattle.host_spec.proofs.Samples.{samples-long}
 use Rattle.resampler.proofs.pass.pass.Statement.{statement}
 use Rattle.resampler.proofs.pass.pass.Tie as tie
 

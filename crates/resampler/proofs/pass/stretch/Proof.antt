@@ -10,10 +10,10 @@ use mir.Syntax.{w16}
 use mir.Val.{SFits}
 use mir.Facts.{toZ-ofZ}
 use denote.Ref.{now}
-use Rattle.feeding.proofs.Passing.{byte-is, clip-le, Stretching, stretching-begins, stretching-turn, stretching-ends}
-use Rattle.host.specs.Bytes.{samplesOf}
+use Rattle.converter.proofs.Passing.{byte-is, clip-le, Stretching, stretching-begins, stretching-turn, stretching-ends}
+use Rattle.host_spec.specs.Bytes.{samplesOf}
 use Rattle.resampler.specs.Feeding.{asPairs}
-use Rattle.host.proofs.Samples.{samples-long}
+use Rattle.host_spec.proofs.Samples.{samples-long}
 use Rattle.resampler.proofs.Pairs.{stored-two}
 use Rattle.resampler.proofs.pass.stretch.Statement.{statement}
 use Rattle.resampler.proofs.pass.stretch.Tie as tie

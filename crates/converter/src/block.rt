@@ -1,0 +1,119 @@
+// Block feeding: one pass over the window and the first samples of the input, and one over the input itself.
+use crate::pass::Progress;
+use crate::pass::pass_by;
+use crate::pass::window_at;
+use converter_spec::End;
+use converter_spec::Fed;
+use converter_spec::State;
+use converter_spec::is_state;
+ghost use mathlib.Core.Path.{_≡_};
+ghost use mathlib.Core.Bool.{true};
+ghost use Prim.Native.Nat.{_+_, _^_, _≤_, _<_};
+ghost use lib.IntN.{pos};
+ghost use lib.ListN.{length, getD};
+ghost use Rattle.converter_spec.specs.Start.{isState};
+ghost use Rattle.converter_spec.specs.Feeding.{answerOf, FedRight};
+ghost use Rattle.converter.specs.Pass.{headOf, joinedOf, finishing};
+
+// A sample, or zero past the last.
+fn or_zero(samples: &[i16], i: usize) -> i16
+    ensures { λ r. ⌜ r ≡ getD (now (samples .entry)) i (pos 0) ⌝ }
+{
+    if i < samples.len() {
+        return samples[i];
+    }
+    0
+}
+
+// A window and the four samples after it.
+fn join(window: [i16; 4], input: &[i16]) -> [i16; 8]
+    ensures { λ r. ⌜ r ≡ joinedOf window (now (input .entry)) ⌝ }
+{
+    let a = or_zero(input, 0);
+    let b = or_zero(input, 1);
+    let c = or_zero(input, 2);
+    let d = or_zero(input, 3);
+    [window[0], window[1], window[2], window[3], a, b, c, d]
+}
+
+// How many of the first four samples there are.
+fn head(input: &[i16]) -> usize
+    ensures { λ r. ⌜ r ≡ headOf (now (input .entry)) ⌝ }
+{
+    if input.len() < 4 {
+        return input.len();
+    }
+    4
+}
+
+// What a feed answers whose last pass over `samples` got as far as p, with `taken`, `written` and `clips` before it. The window that is kept is that of the output which is due,
+// or the last one where samples are still needed.
+fn finish(s: State, samples: &[i16], p: Progress, taken: usize, written: usize, clips: usize) -> Fed
+    requires { ⌜ (4 ≤ length (now samples)) × (p .at ≤ length (now samples)) × (taken ≤ 4) × (written + p .written < 2 ^ 63) × (clips + p .clips < 2 ^ 63) ⌝ }
+    ensures { λ f. ⌜ answerOf f ≡ finishing s (now (samples .entry)) p taken written clips ⌝ }
+{
+    let last = samples.len() - 4;
+    let at = p.at;
+    let mut place = last;
+    let mut end = End::Hungry;
+    if at <= last {
+        place = at;
+        end = End::Full;
+    }
+    let window = window_at(samples, place);
+    let state = State {
+        register: p.register,
+        needed: (at - place) as u8,
+        window: window,
+        ..s
+    };
+    Fed {
+        state: state,
+        taken: taken + place,
+        written: written + p.written,
+        clips: clips + p.clips,
+        end: end,
+        refusal: 0,
+    }
+}
+
+// Feeds a state that is not refused: a pass over its window and the first samples, and where samples are still needed one over the input.
+fn feed_accepted(s: State, input: &[i16], output: &mut [i16]) -> Fed
+    requires { ⌜ isState s ≡ true ⌝ }
+    ensures { λ r. ⌜ FedRight s (now (input .entry)) (now (output .entry)) r (now (output .exit)) ⌝ }
+{
+    let window = s.window;
+    let joined = join(window, input);
+    let n = 4 + head(input);
+    let first = pass_by(s.kernel, s.word, s.register, s.needed, &joined[..n], output);
+    let written = first.written;
+    if first.at + 4 <= n || input.len() < 4 {
+        return finish(s, &joined[..n], first, 0, 0, 0);
+    }
+    let second = pass_by(
+        s.kernel,
+        s.word,
+        first.register,
+        (first.at - 4) as u8,
+        input,
+        &mut output[written..],
+    );
+    finish(s, input, second, 4, written, first.clips)
+}
+
+// Feeds by document 01's rule: it ends `Hungry` when a sample is needed and the input is spent, and `Full` when an output is due and the space is all written.
+pub fn feed(state: State, input: &[i16], output: &mut [i16]) -> Fed
+    ensures { λ r. ⌜ FedRight state (now (input .entry)) (now (output .entry)) r (now (output .exit)) ⌝ }
+{
+    if !is_state(state) {
+        return Fed {
+            state: state,
+            taken: 0,
+            written: 0,
+            clips: 0,
+            end: End::Hungry,
+            refusal: 5,
+        };
+    }
+    feed_accepted(state, input, output)
+}

@@ -1,0 +1,11 @@
+pub mod States
+pub mod Turns
+pub mod Runs
+pub mod Feeds
+pub mod Count
+pub mod Amounts
+pub mod PaperRun
+pub mod Follows
+pub mod Third
+pub mod Traces
+pub mod OneFeed

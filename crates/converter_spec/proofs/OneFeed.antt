@@ -1,0 +1,120 @@
+-- Demand 3 of a list of one feed, in numbers that a user can check. All of it is read off `third`, so that a statement which says less is refused here. Assumes nothing.
+use mathlib.Core.Path.{_≡_, refl, sym, ap, subst, _∙_}
+use mathlib.Core.Bool.{Bool, true, false}
+use mathlib.Core.List.{List, [], _∷_, _++_, append-nil}
+use mathlib.Core.Logic.{_↔_}
+use Prim.Native.Nat.{ℕ, zero, suc, _+_, _*_, _^_, _≤_, _<_}
+use native.Mathlib.Omega.{arith}
+use native.Mathlib.Nat.{zero-add}
+use lib.Dec.{leb}
+use lib.IntN.{ℤ, pos}
+use lib.ListN.{length, take, getD, length-take}
+use lib.Seq.{getD-take}
+use Rattle.oscillator.specs.declared.settings.Setting.{Setting}
+use Rattle.oscillator.specs.Word.{word, wordOf}
+use Rattle.oscillator.proofs.Words.{word-within}
+use Rattle.kernels_spec.specs.Kernel.{Kernel, kernelOf}
+use Rattle.kernels_spec.specs.Value.{value}
+use Rattle.kernels_spec.specs.Distance.{CloseAt}
+use Rattle.converter_spec.specs.declared.state.Started.{Started}
+use Rattle.converter_spec.specs.declared.feeding.Fed.{Fed}
+use Rattle.converter_spec.specs.Start.{lastRead, started}
+use Rattle.converter_spec.specs.Feeding.{endNumber, FedRight}
+use Rattle.converter_spec.specs.Paper.{Compared, fed, tuned, Paper, Did, wordIn, ahead, first, BeforeFirst, count, outputsOver, joins, counted, feeds, does, run, afterwards, positions}
+use Rattle.converter_spec.specs.Demand.{Call, feed, Seen, outputs, clipsAt, EachEnds, Agreement, Agrees}
+use Rattle.converter_spec.proofs.Count.{ahead-sum, first-length, first-at, map-at, before-only, count-first, standing, outputs-first}
+use Rattle.converter_spec.proofs.Third.{third}
+
+-- ---- positions a word apart: those made and those ahead are those from the start on
+standing-first : (q w c i : ℕ) → standing (first q w c) (ahead q w c) w i ≡ ahead q w i
+standing-first q w zero i = refl
+standing-first q w (suc c) zero = refl
+standing-first q w (suc c) (suc i) = standing-first (q + w) w c i
+
+over-first : (κ : Kernel) (n q w c : ℕ) → 1 ≤ w → outputsOver κ n (first q w c) w (ahead q w c) ≡ count κ w q n
+over-first κ n q w c h =
+    let all : ℕ = outputsOver κ n (first q w c) w (ahead q w c) in
+    before-only (subst (λ at. BeforeFirst κ at n all) (λ t i. standing-first q w c i t) (outputs-first κ n (first q w c) w (ahead q w c) h)) (count-first κ w q n h)
+
+-- ---- the paper's feed, by what is compared of it
+abbrev byCompared : Paper → List ℤ → Compared → Did
+byCompared p xs (fed j c e r) = joins p xs j c e
+byCompared p xs (tuned r) = joins p xs 0 0 0
+
+feeds-by : (p : Paper) (xs : List ℤ) (n : ℕ) → feeds p xs n ≡ byCompared p xs (feeds p xs n .compared)
+unfolding feeds
+feeds-by p xs n = by-count (leb (counted p xs) n) refl
+  where
+    by-count : (b : Bool) → leb (counted p xs) n ≡ b → feeds p xs n ≡ byCompared p xs (feeds p xs n .compared)
+    by-count true e = rw e refl
+    by-count false e = rw e refl
+
+abbrev refusalIn : Compared → ℕ
+refusalIn (fed j c e r) = r
+refusalIn (tuned r) = r
+
+abbrev paperAt : ℕ → ℕ → ℕ → Paper
+paperAt k w q = record { kernel = k; word = w; joined = []; made = 0; position = q }
+
+-- ---- one feed from an accepted start
+module _ (k : ℕ) (a : Setting) (P w : ℕ) (l : P < 2 ^ 32) (ew : wordOf a ≡ word w) {s : Started} (e : s ≡ started k a P) (z : s .refusal ≡ 0)
+    {input old : List ℤ} {f : Fed} {left : List ℤ} (h : FedRight (s .state) input old f left) where
+  abbrev calls : List Call
+  calls = feed input old f left ∷ []
+
+  -- what the paper did, in the card's numbers
+  abbrev did : Did
+  did = joins (paperAt k w P) input (f .taken) (f .written) (endNumber (f .end))
+
+  agreement : Agreement (kernelOf k) calls (did ∷ []) (did .paper) (first P w (f .written))
+  unfolding Seen run does afterwards positions
+  agreement =
+      let d : Did = feeds (paperAt k w P) input (length old) in
+      let g : Agreement (kernelOf k) calls (d ∷ []) (d .paper) (d .positions ++ []) = subst (λ o. Agrees (paperAt k (wordIn o) P) calls) ew (third k a P l s e z calls (h, tt)) in
+      let is : d ≡ did = feeds-by (paperAt k w P) input (length old) ∙ ap (λ cs. byCompared (paperAt k w P) input (getD cs 0 (tuned 0))) (sym (g .same)) in
+      rw (append-nil (first P w (f .written))) at (subst (λ t. Agreement (kernelOf k) calls (t ∷ []) (t .paper) (t .positions ++ [])) is g)
+
+  -- not refused
+  pub one-refusal : f .refusal ≡ 0
+  one-refusal = ap (λ cs. refusalIn (getD cs 0 (tuned 0))) (agreement .same)
+
+  -- 0 is HUNGRY: the input is spent, and as many outputs are made as stand before the first position whose b + R is the number of samples taken
+  pub one-hungry : endNumber (f .end) ≡ 0 ↔ (f .taken ≡ length input) × (f .written ≡ count (kernelOf k) w P (f .taken))
+  unfolding EachEnds
+  one-hungry = rw (zero-add (f .taken), zero-add (f .written), over-first (kernelOf k) (f .taken) P w (f .written) (word-within a w ew .0)) at (agreement .ends .0 .hungry)
+
+  -- and else 1, FULL: the space is all written
+  pub one-full : (endNumber (f .end) ≡ 0 → ⊥) → (endNumber (f .end) ≡ 1) × (f .written ≡ length old)
+  unfolding EachEnds
+  one-full = agreement .ends .0 .full
+
+  outputs-are : outputs calls ≡ take (f .written) left
+  unfolding outputs
+  outputs-are = append-nil (take (f .written) left)
+
+  -- the outputs lie in the buffer
+  pub one-written : f .written ≤ length left
+  one-written = omega (arith, agreement .made, ap length outputs-are, length-take (f .written) left)
+
+  -- output i stands at P + i w, over the samples taken
+  module _ (i : ℕ) (m : i < f .written) where
+    output-is : getD (outputs calls) i (pos 0) ≡ getD left i (pos 0)
+    output-is = ap (λ zs. getD zs i (pos 0)) outputs-are ∙ getD-take (f .written) left i (pos 0) m
+
+    within : i < length (first P w (f .written))
+    within = omega (arith, first-length P w (f .written))
+
+    stands : getD (first P w (f .written)) i 0 ≡ P + i * w
+    stands = first-at P w (f .written) i m ∙ ahead-sum P w i
+
+    pub one-output : getD left i (pos 0) ≡ value (kernelOf k) (take (f .taken) input) (P + i * w)
+    one-output = sym output-is ∙ ap (λ zs. getD zs i (pos 0)) (agreement .values) ∙ map-at (value (kernelOf k) (take (f .taken) input)) (first P w (f .written)) i within ∙ ap (value (kernelOf k) (take (f .taken) input)) stands
+
+    pub one-close : CloseAt (kernelOf k) (take (f .taken) input) (P + i * w) (getD left i (pos 0))
+    one-close = rw (stands, output-is) at (agreement .close i within)
+
+    pub one-reached : lastRead (kernelOf k) (P + i * w) < length (take (f .taken) input)
+    one-reached = rw stands at (agreement .reached i within)
+
+  pub one-clips : f .clips ≡ clipsAt (kernelOf k) (take (f .taken) input) (first P w (f .written))
+  one-clips = ap (λ ns. getD ns 0 0) (agreement .clips)

@@ -1,0 +1,115 @@
+-- Laws of the paper's run, whatever the calls: where its outputs stand, that it counts them, and that it loses no joined sample. Assumes nothing.
+use mathlib.Core.Path.{_≡_, refl, sym, ap, _∙_}
+use mathlib.Core.Bool.{Bool, true, false}
+use mathlib.Core.List.{List, [], _∷_, _++_, append-assoc, append-nil}
+use Prim.Native.Nat.{ℕ, zero, suc, _+_, _<_}
+use native.Mathlib.Omega.{arith}
+use lib.Dec.{leb}
+use lib.IntN.{ℤ}
+use lib.ListN.{length, take, getD, replicate, length-append, length-replicate}
+use Rattle.oscillator.specs.Word.{Outcome, word, refused, wordOf}
+use Rattle.oscillator.specs.Position.{position}
+use Rattle.oscillator.proofs.Positions.{position-append}
+use Rattle.converter_spec.specs.Paper.{Given, feed, retune, Paper, Did, ahead, first, joins, counted, feeds, retunes, does, run, afterwards, positions}
+use Rattle.converter_spec.proofs.Count.{first-length}
+
+-- the word in force at each output made over the calls gs
+unfoldable pub wordsOf : Paper → List Given → List ℕ
+wordsOf p [] = []
+wordsOf p (g ∷ gs) = replicate (length (does p g .positions)) (p .word) ++ wordsOf (does p g .paper) gs
+
+-- ---- one call: it keeps the kernel, joins samples after those that are there, makes the next positions a word apart, and leaves the paper at the one after them
+pub record Onward (p : Paper) (d : Did) : Type 0 where
+  pub kernel : d .paper .kernel ≡ p .kernel
+  pub new : List ℤ
+  pub joined : d .paper .joined ≡ p .joined ++ new
+  pub made : d .paper .made ≡ p .made + length (d .positions)
+  pub positions : d .positions ≡ first (p .position) (p .word) (length (d .positions))
+  pub after : d .paper .position ≡ ahead (p .position) (p .word) (length (d .positions))
+
+joins-onward : (p : Paper) (xs : List ℤ) (j c e : ℕ) → Onward p (joins p xs j c e)
+joins-onward p xs j c e =
+    let l : c ≡ length (first (p .position) (p .word) c) = sym (first-length (p .position) (p .word) c) in
+    record {
+      kernel = refl;
+      new = take j xs;
+      joined = refl;
+      made = ap (λ n. p .made + n) l;
+      positions = ap (first (p .position) (p .word)) l;
+      after = ap (ahead (p .position) (p .word)) l;
+    }
+
+pub onward : (p : Paper) (g : Given) → Onward p (does p g)
+unfolding does feeds
+onward p (feed xs space) = by-count (leb (counted p xs) space) refl
+  where
+    by-count : (b : Bool) → leb (counted p xs) space ≡ b → Onward p (feeds p xs space)
+    by-count true e = rw e (joins-onward p xs _ _ _)
+    by-count false e = rw e (joins-onward p xs _ _ _)
+onward p (retune a) = by-word (wordOf a)
+  where
+    by-word : (o : Outcome) → Onward p (retunes p o)
+    by-word (word w) = record { kernel = refl; new = []; joined = sym (append-nil (p .joined)); made = omega arith; positions = refl; after = refl }
+    by-word (refused n) = record { kernel = refl; new = []; joined = sym (append-nil (p .joined)); made = omega arith; positions = refl; after = refl }
+
+-- ---- a list of calls
+ahead-position : (q w c : ℕ) → ahead q w c ≡ position q (replicate c w)
+unfolding position
+ahead-position q w zero = refl
+ahead-position q w (suc c) = ahead-position (q + w) w c
+
+-- c positions a word apart, and then others that stand as they should from there on
+onward-at : (q w c : ℕ) (rs ws : List ℕ) → ((k : ℕ) → k < length rs → getD rs k 0 ≡ position (ahead q w c) (take k ws))
+    → (k : ℕ) → k < c + length rs → getD (first q w c ++ rs) k 0 ≡ position q (take k (replicate c w ++ ws))
+unfolding position
+onward-at q w zero rs ws h k l = h k (omega arith)
+onward-at q w (suc c) rs ws h zero l = refl
+onward-at q w (suc c) rs ws h (suc k) l = onward-at (q + w) w c rs ws h k (omega arith)
+
+-- "Q(0) = P, and Q(k+1) = Q(k) + the word in force when output k is written"
+pub run-positions : (gs : List Given) (p : Paper) (k : ℕ) → k < length (positions (run p gs)) → getD (positions (run p gs)) k 0 ≡ position (p .position) (take k (wordsOf p gs))
+unfolding run positions wordsOf
+run-positions [] p k l = absurd (omega arith)
+run-positions (g ∷ gs) p k l =
+    let d : Did = does p g in
+    let o = onward p g in
+    let c : ℕ = length (d .positions) in
+    let rs : List ℕ = positions (run (d .paper) gs) in
+    let ws : List ℕ = wordsOf (d .paper) gs in
+    ap (λ zs. getD (zs ++ rs) k 0) (o .positions)
+    ∙ onward-at (p .position) (p .word) c rs ws (λ i m. run-positions gs (d .paper) i m ∙ ap (λ q. position q (take i ws)) (o .after)) k (omega (arith, length-append (d .positions) rs))
+
+-- and where the paper stands after them
+pub run-position : (gs : List Given) (p : Paper) → afterwards p (run p gs) .position ≡ position (p .position) (wordsOf p gs)
+unfolding run afterwards wordsOf
+run-position [] p = unfold position in refl
+run-position (g ∷ gs) p =
+    let d : Did = does p g in
+    let us : List ℕ = replicate (length (d .positions)) (p .word) in
+    run-position gs (d .paper)
+    ∙ ap (λ q. position q (wordsOf (d .paper) gs)) (onward p g .after ∙ ahead-position (p .position) (p .word) (length (d .positions)))
+    ∙ sym (position-append (p .position) us (wordsOf (d .paper) gs))
+
+pub run-words : (gs : List Given) (p : Paper) → length (wordsOf p gs) ≡ length (positions (run p gs))
+unfolding run positions wordsOf
+run-words [] p = refl
+run-words (g ∷ gs) p =
+    let d : Did = does p g in
+    let us : List ℕ = replicate (length (d .positions)) (p .word) in
+    omega (arith, length-append us (wordsOf (d .paper) gs), length-replicate (length (d .positions)) (p .word), length-append (d .positions) (positions (run (d .paper) gs)), run-words gs (d .paper))
+
+-- it has counted them, and no sample that was joined is lost
+pub run-made : (gs : List Given) (p : Paper) → afterwards p (run p gs) .made ≡ p .made + length (positions (run p gs))
+unfolding run afterwards positions
+run-made [] p = omega arith
+run-made (g ∷ gs) p =
+    let d : Did = does p g in
+    omega (arith, run-made gs (d .paper), onward p g .made, length-append (d .positions) (positions (run (d .paper) gs)))
+
+pub run-grows : (gs : List Given) (p : Paper) → (later : List ℤ) × (afterwards p (run p gs) .joined ≡ p .joined ++ later)
+unfolding run afterwards
+run-grows [] p = ([], sym (append-nil (p .joined)))
+run-grows (g ∷ gs) p =
+    let o = onward p g in
+    let h = run-grows gs (does p g .paper) in
+    (o .new ++ h .0, h .1 ∙ ap (λ zs. zs ++ h .0) (o .joined) ∙ append-assoc (p .joined) (o .new) (h .0))

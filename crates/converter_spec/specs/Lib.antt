@@ -1,0 +1,4 @@
+pub mod Start
+pub mod Feeding
+pub mod Paper
+pub mod Demand

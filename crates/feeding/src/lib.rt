@@ -1,6 +1,0 @@
-// Block feeding: `feed`, over samples. The contract cites the definitions of `converter`, with the statement of demand 3.
-mod block;
-mod pass;
-
-pub use block::feed;
-pub use pass::Progress;

@@ -1,0 +1,129 @@
+-- `frames_read::data::judge_digits` meets its contract. Assumes nothing.
+use borrow.Author.Needs.{needs}
+use mathlib.Core.Path.{_≡_, sym, ap, _∙_}
+use Prim.Native.Nat.{ℕ, _%_}
+use native.Mathlib.Omega.{arith}
+use lib.Seq.{length-take-le}
+use denote.Ref.{now}
+use Rattle.frames_spec.specs.Line.{byteSum}
+use Rattle.frames_spec.specs.Frame.{countOf, dataAnswer}
+use Rattle.frames_spec.proofs.Fronts.{field-right, field-below}
+use Rattle.frames_spec.proofs.Frames.{Long, frame-9, frame-10, frame-11, frame-read, samples-length}
+use Rattle.frames_read.proofs.data.judge_digits.Statement.{statement}
+use Rattle.frames_read.proofs.data.judge_digits.Tie as tie
+
+-- ---- past the tests of refusal 9: the function's entry, and what they say; past that of refusal 10
+abbrev entry : tie.Else4 → tie.Start
+entry c = c .before .before .before .before .before .before .before
+
+long : (c : tie.Else4) → Long (now (entry c .args .ds))
+long c = let n = c .before .before .before .number .ensures .0 in (omega arith, omega arith, omega arith)
+
+summed : (c : tie.Else5) → byteSum (now (entry (c .before .before) .args .ds)) % 256 ≡ 0
+summed c = ap (λ (s : ℕ). s % 256) (sym (c .before .byte-sum .ensures)) ∙ c .if5 .left
+
+refused-requires : tie.Need-refused-requires
+refused-requires c κs = search needs
+
+returns : tie.Need-returns
+returns c = c .refused .ensures ∙ ap dataAnswer (sym (frame-9 _ _ (λ h. omega (arith, c .before .if1 .taken))))
+
+sub-number : tie.Need-sub-number
+sub-number c = search needs
+
+part-number-start : tie.Need-part-number-start
+part-number-start c = search needs
+
+part-number-end : tie.Need-part-number-end
+part-number-end c = search needs
+
+number-requires : tie.Need-number-requires
+number-requires c κs = field-right 8 2 _ (omega arith) (c .before .before .before .pre .1)
+
+refused-requires-2 : tie.Need-refused-requires-2
+refused-requires-2 c κs = search needs
+
+returns-2 : tie.Need-returns-2
+returns-2 c = c .refused2 .ensures ∙ ap dataAnswer (sym (frame-9 _ _ (λ h. omega (arith, c .before .before .number .ensures .0, c .before .if2 .taken))))
+
+refused-requires-3 : tie.Need-refused-requires-3
+refused-requires-3 c κs = search needs
+
+returns-3 : tie.Need-returns-3
+returns-3 c = c .refused3 .ensures ∙ ap dataAnswer (sym (frame-9 _ _ (λ h. omega (arith, c .before .before .before .number .ensures .0, c .before .if3 .taken))))
+
+mul-if4 : tie.Need-mul-if4
+mul-if4 c = search needs
+
+add-if4 : tie.Need-add-if4
+add-if4 c = search needs
+
+refused-requires-4 : tie.Need-refused-requires-4
+refused-requires-4 c κs = search needs
+
+returns-4 : tie.Need-returns-4
+returns-4 c = c .refused4 .ensures ∙ ap dataAnswer (sym (frame-9 _ _ (λ h. c .before .if4 .taken (omega (arith, c .before .before .before .before .number .ensures .0)))))
+
+byte-sum-requires : tie.Need-byte-sum-requires
+byte-sum-requires c κs = search needs
+
+refused-requires-5 : tie.Need-refused-requires-5
+refused-requires-5 c κs = search needs
+
+returns-5 : tie.Need-returns-5
+returns-5 c =
+    c .refused5 .ensures ∙ ap dataAnswer (sym (frame-10 _ _ (long (c .before .before .before)) (λ e. c .before .if5 .taken (ap (λ (s : ℕ). s % 256) (c .before .before .byte-sum .ensures) ∙ e))))
+
+refused-requires-6 : tie.Need-refused-requires-6
+refused-requires-6 c κs = search needs
+
+returns-6 : tie.Need-returns-6
+returns-6 c =
+    let z = c .before .before .before .before in
+    c .refused6 .ensures ∙ ap dataAnswer (sym (frame-11 _ _ (long z) (summed (c .before .before)) (omega (arith, z .before .before .before .number .ensures .0, c .before .if6 .taken))))
+
+slice-aggregate-number : tie.Need-slice-aggregate-number
+slice-aggregate-number c = sym (length-take-le 8 (now (entry (c .before .before .before .before) .args .ds)) (omega arith))
+
+number-requires-2 : tie.Need-number-requires-2
+number-requires-2 c κs = field-right 0 8 _ (omega arith) (entry (c .before .before .before .before) .pre .1)
+
+cast-sequence : tie.Need-cast-sequence
+cast-sequence c = omega (arith, c .number2 .ensures .0, field-below 0 8 _ (entry (c .before .before .before .before .before) .pre .1))
+
+returns-7 : tie.Need-returns-7
+returns-7 c =
+    let z = c .before .before .before .before .before in
+    let ds = now (entry z .args .ds) in
+    let q = c .number2 .ensures .0 in
+    let n = z .before .before .before .number .ensures .0 in
+    let k = n ∙ sym (samples-length (countOf ds) ds) in
+    (λ i. record { sequence = q i; count = k i; refusal = 0 }) ∙ ap dataAnswer (sym (frame-read ds _ (long z) (summed (c .before .before .before)) (omega arith)))
+
+pub judge-digits-spec : {M : Type 1} → statement M
+judge-digits-spec =
+    tie.close
+    (tie.spec
+    refused-requires
+    returns
+    sub-number
+    part-number-start
+    part-number-end
+    number-requires
+    refused-requires-2
+    returns-2
+    refused-requires-3
+    returns-3
+    mul-if4
+    add-if4
+    refused-requires-4
+    returns-4
+    byte-sum-requires
+    refused-requires-5
+    returns-5
+    refused-requires-6
+    returns-6
+    slice-aggregate-number
+    number-requires-2
+    cast-sequence
+    returns-7)

@@ -1,0 +1,53 @@
+-- `frames_read::start::read_start` meets its contract. Assumes nothing.
+use borrow.Author.Needs.{needs}
+use mathlib.Core.Path.{sym, ap, _∙_}
+use denote.Ref.{now}
+use Rattle.frames_spec.specs.Line.{lineDigits}
+use Rattle.frames_spec.specs.Start.{startOf, startLine, startAnswer}
+use Rattle.frames_read.proofs.Lent.{front-refused, front-follows, Lent, front-lent}
+use Rattle.frames_read.proofs.start.read_start.Statement.{statement}
+use Rattle.frames_read.proofs.start.read_start.Tie as tie
+
+lent : (c : tie.Else1) → Lent (now (c .before .before .before .before .args .line)) (c .before .before .read-front .result .end)
+lent c = front-lent _ _ (lineDigits 75 _) (c .before .before .read-front .ensures) (c .if1 .left)
+
+read-front-requires : tie.Need-read-front-requires
+read-front-requires c κs = search needs
+
+refused-requires : tie.Need-refused-requires
+refused-requires c κs = search needs
+
+returns : tie.Need-returns
+unfolding startLine
+returns c =
+    c .refused .ensures ∙ ap startAnswer (sym (front-refused _ _ startOf (lineDigits 75 _) (c .before .before .before .read-front .ensures) (c .before .if1 .taken)))
+
+sub-judge-digits : tie.Need-sub-judge-digits
+sub-judge-digits c = lent c .some
+
+part-judge-digits-start : tie.Need-part-judge-digits-start
+part-judge-digits-start c = let t = lent c in search needs
+
+part-judge-digits-end : tie.Need-part-judge-digits-end
+part-judge-digits-end c = let t = lent c in search needs
+
+judge-digits-requires : tie.Need-judge-digits-requires
+judge-digits-requires c κs = lent (c .before) .digits
+
+returns-2 : tie.Need-returns-2
+unfolding startLine
+returns-2 c =
+    c .judge-digits .ensures ∙ ap startAnswer (sym (front-follows _ _ startOf (lineDigits 75 _) (c .before .before .before .before .read-front .ensures) (c .before .before .if1 .left)))
+
+pub read-start-spec : {M : Type 1} → statement M
+read-start-spec =
+    tie.close
+    (tie.spec
+    read-front-requires
+    refused-requires
+    returns
+    sub-judge-digits
+    part-judge-digits-start
+    part-judge-digits-end
+    judge-digits-requires
+    returns-2)

@@ -1,0 +1,106 @@
+// D lines.
+use crate::digits::byte_sum;
+use crate::digits::number;
+use crate::line::read_front;
+use crate::line::tail;
+use frames_spec::DataLine;
+ghost use mathlib.Core.Path.{_≡_};
+ghost use mathlib.Core.Bool.{true};
+ghost use Prim.Native.Nat.{_+_, _*_, _≤_};
+ghost use lib.ListN.{length};
+ghost use Rattle.converter_spec.specs.Feeding.{over};
+ghost use Rattle.frames_spec.specs.Line.{allDigits, rest, used};
+ghost use Rattle.frames_spec.specs.Frame.{frameOf, samplesOf, dataLine, dataAnswer, DataRight};
+
+fn refused(refusal: u8) -> DataLine
+    ensures { λ r. ⌜ r ≡ record { sequence = 0; count = 0; refusal = refusal } ⌝ }
+{
+    DataLine {
+        sequence: 0,
+        count: 0,
+        refusal: refusal,
+    }
+}
+
+// What the digits of a D line hold, for a sample buffer with so much space.
+fn judge_digits(ds: &[u8], space: usize) -> DataLine
+    requires { ⌜ (length (now ds) ≤ 268) × (allDigits (now ds) ≡ true) ⌝ }
+    ensures { λ r. ⌜ r ≡ dataAnswer (frameOf space (now (ds .entry))) ⌝ }
+{
+    if ds.len() < 12 {
+        return refused(9);
+    }
+    let count = number(&ds[8..10]) as usize;
+    if count < 1 {
+        return refused(9);
+    }
+    if 64 < count {
+        return refused(9);
+    }
+    if ds.len() != 12 + count * 4 {
+        return refused(9);
+    }
+    if byte_sum(ds) % 256 != 0 {
+        return refused(10);
+    }
+    if space < count {
+        return refused(11);
+    }
+    let sequence = number(&ds[..8]) as u32;
+    DataLine {
+        sequence: sequence,
+        count: count,
+        refusal: 0,
+    }
+}
+
+// What a D line holds, for a sample buffer with so much space.
+fn judge(line: &[u8], space: usize) -> DataLine
+    ensures { λ r. ⌜ r ≡ dataAnswer (dataLine space (now (line .entry))) ⌝ }
+{
+    let f = read_front(line, 68);
+    if f.refusal != 0 {
+        return refused(f.refusal);
+    }
+    let end = f.end;
+    judge_digits(&line[1..end], space)
+}
+
+// Puts the samples of the digits of a D line at the front of the buffer.
+fn fill(ds: &[u8], count: usize, samples: &mut [i16])
+    requires { ⌜ (12 + count * 4 ≤ length (now ds)) × (allDigits (now ds) ≡ true) × (count ≤ length (now samples)) ⌝ }
+    ensures { λ _. ⌜ now (samples .exit) ≡ over (samplesOf count (now (ds .entry))) (now (samples .entry)) ⌝ }
+{
+    let mut i: usize = 0;
+    while i < count {
+        let at = 10 + i * 4;
+        let v = number(&ds[at..at + 4]);
+        samples[i] = integers::signed(v as u16);
+        i += 1;
+    }
+}
+
+// Reads a D line: returns its fields, and fills the first `count` places of the sample buffer.
+pub fn read_data(line: &[u8], samples: &mut [i16]) -> DataLine
+    ensures { λ r. ⌜ DataRight (now (line .entry)) (now (samples .entry)) r (now (samples .exit)) ⌝ }
+{
+    let d = judge(line, samples.len());
+    if d.refusal == 0 {
+        let count = d.count;
+        let end = 13 + count * 4;
+        fill(&line[1..end], count, samples);
+    }
+    d
+}
+
+// The bytes that follow the D line, which are the caller's; all of them where it is refused.
+pub fn rest_data<'a>(line: &'a [u8], samples: &[i16]) -> &'a [u8]
+    ensures { λ r. ⌜ now r ≡ rest (dataLine (length (now (samples .entry))) (now (line .entry))) (now (line .entry)) ⌝ }
+    ensures { λ r. ⌜ (r .ptr .0 ≡ line .entry .ptr .0) × (r .ptr .1 ≡ line .entry .ptr .1 + used (dataLine (length (now (samples .entry))) (now (line .entry))) (now (line .entry))) ⌝ }
+{
+    let d = judge(line, samples.len());
+    if d.refusal != 0 {
+        return line;
+    }
+    tail(line, 14 + d.count * 4)
+}

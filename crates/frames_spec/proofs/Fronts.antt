@@ -1,0 +1,136 @@
+-- What K and D lines share: tests that refuse, fields of digits, the front of a line, and what the code's answers tell of a reading. Assumes nothing.
+use mathlib.Core.Path.{_≡_, refl, ap, _∙_}
+use mathlib.Core.Bool.{Bool, true, false}
+use mathlib.Core.List.{List, [], _∷_}
+use Prim.Native.Nat.{ℕ, suc, _+_, _-_, _*_, _^_, _≤_, _<_}
+use native.Mathlib.Omega.{arith}
+use native.Mathlib.Nat.{pow-succ', pow-le-pow-right, mul-le-mul-right, zero-lt-suc}
+use borrow.Author.Tests.{ltb-true}
+use lib.Dec.{ltb, eqb}
+use lib.ListN.{length, take, drop, length-take}
+use lib.Seq.{length-take-le}
+use Rattle.integers.specs.Table.{both}
+use Rattle.frames_spec.specs.Line.{digitValue, allDigits, numberAfter, field, Read, read, refused, refuseUnless, andThen, lineEnd, hasEnd, afterLetter, lineDigits, used, rest}
+use Rattle.frames_spec.proofs.Hex.{all-take, all-drop}
+use Rattle.frames_spec.proofs.Lines.{between}
+
+-- ---- one test: it refuses or lets pass, and what was read has passed it
+module _ {A : Type 0} where
+  pub refuses : (t : Bool) (n : ℕ) (r : Read A) → (t ≡ true → ⊥) → refuseUnless t n r ≡ refused n
+  refuses true n r h = absurd (h refl)
+  refuses false n r h = refl
+
+  pub passes : (t : Bool) (n : ℕ) (r : Read A) → t ≡ true → refuseUnless t n r ≡ r
+  passes t n r e = rw e
+
+  pub passed : (t : Bool) (n : ℕ) (r : Read A) (a : A) → refuseUnless t n r ≡ read a → (t ≡ true) × (r ≡ read a)
+  passed true n r a e = (refl, e)
+  passed false n r a e = let z : _≡_ {A = ℕ} 0 1 = cc in absurd (omega arith)
+
+-- ---- a refusal's number is from lo to hi
+abbrev pub Within : {A : Type 0} → ℕ → ℕ → Read A → Type 0
+Within lo hi (read a) = Unit
+Within lo hi (refused n) = (lo ≤ n) × (n ≤ hi)
+
+module _ (lo hi : ℕ) where
+  pub within-unless : {A : Type 0} (t : Bool) (n : ℕ) (r : Read A) → lo ≤ n → n ≤ hi → Within lo hi r → Within lo hi (refuseUnless t n r)
+  within-unless true n r a b h = h
+  within-unless false n r a b h = (a, b)
+
+  pub within-then : {A B : Type 0} (r : Read A) (follows : A → Read B) → Within lo hi r → ((a : A) → Within lo hi (follows a)) → Within lo hi (andThen r follows)
+  within-then (read a) follows h k = k a
+  within-then (refused n) follows h k = h
+
+  after-within : (letter : ℕ) (l : List ℕ) → lo ≤ 6 → 8 ≤ hi → Within lo hi (afterLetter letter l)
+  unfolding afterLetter
+  after-within letter [] a b = (omega arith, omega arith)
+  after-within letter (x ∷ l) a b =
+      within-unless (eqb x letter) 7 (refuseUnless (allDigits l) 8 (read l)) (omega arith) (omega arith)
+      (within-unless (allDigits l) 8 (read l) (omega arith) b tt)
+
+  pub front-within : (letter : ℕ) (bs : List ℕ) → lo ≤ 6 → 8 ≤ hi → Within lo hi (lineDigits letter bs)
+  unfolding lineDigits
+  front-within letter bs a b =
+      let l = take (lineEnd bs) bs in
+      within-unless (hasEnd bs) 6 (afterLetter letter l) a (omega arith) (after-within letter l a b)
+
+-- ---- fields of digits: what `number` asks of one, and how large it is
+field-digits : (a n : ℕ) (ds : List ℕ) → allDigits ds ≡ true → allDigits (take n (drop a ds)) ≡ true
+field-digits a n ds e = all-take n (drop a ds) (all-drop a ds e)
+
+field-short : (a n : ℕ) (ds : List ℕ) → length (take n (drop a ds)) ≤ n
+field-short a n ds = omega (arith, length-take n (drop a ds))
+
+pub field-right : (a n : ℕ) (ds : List ℕ) → n ≤ 9 → allDigits ds ≡ true → (length (take n (drop a ds)) ≤ 9) × (allDigits (take n (drop a ds)) ≡ true)
+field-right a n ds h e = (omega (arith, field-short a n ds), field-digits a n ds e)
+
+number-below : (n : ℕ) (ds : List ℕ) → allDigits ds ≡ true → numberAfter n ds < suc n * 16 ^ length ds
+unfolding allDigits numberAfter
+number-below n [] e = omega arith
+number-below n (b ∷ ds) e =
+    let t = both (ltb (digitValue b) 16) (allDigits ds) e in
+    let d = ltb-true (digitValue b) 16 (t .0) in
+    let h = number-below (n * 16 + digitValue b) ds (t .1) in
+    let m = mul-le-mul-right (16 ^ length ds) d in
+    rw pow-succ' (omega arith)
+
+pub field-below : (a n : ℕ) (ds : List ℕ) → allDigits ds ≡ true → field a n ds < 16 ^ n
+field-below a n ds e =
+    let p : 16 ^ length (take n (drop a ds)) ≤ 16 ^ n = pow-le-pow-right {n = 16} (zero-lt-suc 15) (field-short a n ds) in
+    omega (arith, number-below 0 (take n (drop a ds)) (field-digits a n ds e))
+
+-- ---- the front of a line whose digits were read
+-- where the digits stand
+pub record Fronted (bs ds : List ℕ) : Type 0 where
+  pub whole : lineEnd bs < length bs
+  pub size : suc (length ds) ≡ lineEnd bs
+  pub place : ds ≡ between (lineEnd bs) bs
+  pub digits : allDigits ds ≡ true
+
+after-read : (letter : ℕ) (l ds : List ℕ) → afterLetter letter l ≡ read ds → (suc (length ds) ≡ length l) × (ds ≡ drop 1 l) × (allDigits ds ≡ true)
+unfolding afterLetter
+after-read letter [] ds e = let z : _≡_ {A = ℕ} 0 1 = cc in absurd (omega arith)
+after-read letter (x ∷ l) ds e =
+    let p = passed (eqb x letter) 7 (refuseUnless (allDigits l) 8 (read l)) ds e in
+    let q = passed (allDigits l) 8 (read l) ds (p .1) in
+    let s : ds ≡ l = cc in
+    (ap (λ (d : List ℕ). suc (length d)) s, s, ap allDigits s ∙ q .0)
+
+fronted : (letter : ℕ) (bs ds : List ℕ) → lineDigits letter bs ≡ read ds → Fronted bs ds
+unfolding lineDigits hasEnd
+fronted letter bs ds e =
+    let p = passed (ltb (lineEnd bs) (length (take 270 bs))) 6 (afterLetter letter (take (lineEnd bs) bs)) ds e in
+    let q = after-read letter (take (lineEnd bs) bs) ds (p .1) in
+    let w : lineEnd bs < length bs = omega (arith, ltb-true (lineEnd bs) (length (take 270 bs)) (p .0), length-take 270 bs) in
+    record { whole = w; size = q .0 ∙ length-take-le (lineEnd bs) bs (omega arith); place = q .1; digits = q .2 }
+
+-- what was read of a line was read of its digits
+pub line-read : {A : Type 0} (letter : ℕ) (bs : List ℕ) (follows : List ℕ → Read A) (a : A) → andThen (lineDigits letter bs) follows ≡ read a
+    → (ds : List ℕ) × Fronted bs ds × (follows ds ≡ read a)
+line-read letter bs follows a e = by-front (lineDigits letter bs) (fronted letter bs) e
+  where
+    by-front : (r : Read (List ℕ)) → ((ds : List ℕ) → r ≡ read ds → Fronted bs ds) → andThen r follows ≡ read a → (ds : List ℕ) × Fronted bs ds × (follows ds ≡ read a)
+    by-front (read ds) h e = (ds, h ds refl, e)
+    by-front (refused n) h e = let z : _≡_ {A = ℕ} 0 1 = cc in absurd (omega arith)
+
+-- ---- what the refusal in a reader's answer tells: the line was read where it is 0
+abbrev pub refusalOf : {A : Type 0} → Read A → ℕ
+refusalOf (read a) = 0
+refusalOf (refused n) = n
+
+module _ {A : Type 0} where
+  pub was-read : (lo hi : ℕ) (r : Read A) → 1 ≤ lo → Within lo hi r → refusalOf r ≡ 0 → (a : A) × (r ≡ read a)
+  was-read lo hi (read a) l h e = (a, refl)
+  was-read lo hi (refused n) l h e = absurd (omega arith)
+
+  pub refused-is : (r : Read A) → (refusalOf r ≡ 0 → ⊥) → r ≡ refused (refusalOf r)
+  refused-is (read a) h = absurd (h refl)
+  refused-is (refused n) h = refl
+
+  pub refusal-most : (lo hi : ℕ) (r : Read A) → Within lo hi r → refusalOf r ≤ hi
+  refusal-most lo hi (read a) h = omega arith
+  refusal-most lo hi (refused n) h = h .1
+
+  pub rest-refused : (r : Read A) (bs : List ℕ) (p : ℕ) → (refusalOf r ≡ 0 → ⊥) → (bs ≡ rest r bs) × (p ≡ p + used r bs)
+  rest-refused (read a) bs p h = absurd (h refl)
+  rest-refused (refused n) bs p h = (refl, omega arith)

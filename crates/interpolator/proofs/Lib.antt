@@ -1,4 +1,0 @@
-mod Table
-mod Scales
-mod Mean
-pub mod Sizes

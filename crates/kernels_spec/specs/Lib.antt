@@ -1,0 +1,3 @@
+pub mod Kernel
+pub mod Value
+pub mod Distance

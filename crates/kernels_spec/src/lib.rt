@@ -1,0 +1,1 @@
+// The four kernels: what an output is, and how far it may lie from the exact value. Definitions stand in specs/, their laws in proofs/; the functions are those of `kernels`.
