@@ -6,7 +6,7 @@ use converter_spec::End;
 use converter_spec::Fed;
 use converter_spec::State;
 use libc::STDOUT_FILENO;
-use oscillator::Setting;
+use oscillator_spec::Setting;
 
 // The calls so far: a hash of what they answered, and totals.
 struct Tally {

@@ -3,8 +3,8 @@
 use converter_spec::End;
 use converter_spec::State;
 use libc::STDOUT_FILENO;
-use oscillator::Setting;
-use oscillator::WordAnswer;
+use oscillator_spec::Setting;
+use oscillator_spec::WordAnswer;
 
 // The word or the refusal of a setting, behind its description.
 fn show(description: &[u8], setting: Setting) {

@@ -12,8 +12,8 @@ use lib.IntN.{ℤ, pos}
 use lib.ListN.{length, getD, take, drop, set, length-set}
 use lib.Seq.{drop-cons, drop-drop, take-suc-set, drop-set-lt}
 use mir.Val.{boolByte}
-use Rattle.oscillator.specs.Register.{stepped, advanceOf}
-use Rattle.oscillator.proofs.Positions.{advance-le, stepped-below}
+use Rattle.oscillator_spec.specs.Register.{stepped, advanceOf}
+use Rattle.oscillator_spec.proofs.Positions.{advance-le, stepped-below}
 use Rattle.kernels_spec.specs.Kernel.{kernelOf}
 use Rattle.kernels_spec.specs.Value.{outputOf, clipOf}
 use Rattle.converter_spec.specs.declared.state.State.{State}

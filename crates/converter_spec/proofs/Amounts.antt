@@ -5,7 +5,7 @@ use Prim.Native.Nat.{ℕ, _+_, _-_, _*_, _/_, _^_, _≤_, _<_}
 use native.Mathlib.Omega.{arith}
 use native.Mathlib.Decide.{decLt}
 use native.Mathlib.Nat.{div-mul-le-self, lt-div-mul-add, mul-le-mul-right}
-use Rattle.oscillator.specs.Position.{half, basepoint}
+use Rattle.oscillator_spec.specs.Position.{half, basepoint}
 use Rattle.kernels_spec.specs.Kernel.{Kernel}
 use Rattle.converter_spec.specs.Start.{lastRead}
 use Rattle.converter_spec.specs.Paper.{ahead, count}

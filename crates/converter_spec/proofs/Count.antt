@@ -10,7 +10,7 @@ use borrow.Author.Tests.{ltb-true, ltb-false}
 use lib.Dec.{ltb}
 use lib.IntN.{ℤ, pos}
 use lib.ListN.{length, getD}
-use Rattle.oscillator.proofs.Positions.{basepoint-mono, basepoint-far}
+use Rattle.oscillator_spec.proofs.Positions.{basepoint-mono, basepoint-far}
 use Rattle.kernels_spec.specs.Kernel.{Kernel}
 use Rattle.converter_spec.specs.Start.{lastRead}
 use Rattle.converter_spec.specs.Paper.{ahead, first, BeforeFirst, countIn, count, outputsOver}

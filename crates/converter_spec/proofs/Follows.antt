@@ -8,10 +8,10 @@ use borrow.Author.Tests.{le-leb, lt-leb}
 use lib.IntN.{ℤ}
 use lib.ListN.{length, take, getD, length-append}
 use lib.Seq.{length-take-le}
-use Rattle.oscillator.specs.declared.settings.Setting.{Setting}
-use Rattle.oscillator.specs.Position.{basepoint}
-use Rattle.oscillator.specs.Register.{registerOf, stepped, advanceOf}
-use Rattle.oscillator.proofs.Positions.{register-below, register-phase, register-step, advance-is}
+use Rattle.oscillator_spec.specs.declared.settings.Setting.{Setting}
+use Rattle.oscillator_spec.specs.Position.{basepoint}
+use Rattle.oscillator_spec.specs.Register.{registerOf, stepped, advanceOf}
+use Rattle.oscillator_spec.proofs.Positions.{register-below, register-phase, register-step, advance-is}
 use Rattle.kernels_spec.specs.Kernel.{Kernel, kernelOf}
 use Rattle.kernels_spec.specs.Value.{newest, value, valueClips}
 use Rattle.kernels_spec.proofs.Card.{value-more, clips-more, newest-start, newest-next, card-output, card-clip}

@@ -10,9 +10,9 @@ use lib.Dec.{leb}
 use lib.IntN.{ℤ, pos}
 use lib.ListN.{length, take, getD, length-take}
 use lib.Seq.{getD-take}
-use Rattle.oscillator.specs.declared.settings.Setting.{Setting}
-use Rattle.oscillator.specs.Word.{word, wordOf}
-use Rattle.oscillator.proofs.Words.{word-within}
+use Rattle.oscillator_spec.specs.declared.settings.Setting.{Setting}
+use Rattle.oscillator_spec.specs.Word.{word, wordOf}
+use Rattle.oscillator_spec.proofs.Words.{word-within}
 use Rattle.kernels_spec.specs.Kernel.{Kernel, kernelOf}
 use Rattle.kernels_spec.specs.Value.{value}
 use Rattle.kernels_spec.specs.Distance.{CloseAt}

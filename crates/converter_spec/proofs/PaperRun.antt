@@ -7,9 +7,9 @@ use native.Mathlib.Omega.{arith}
 use lib.Dec.{leb}
 use lib.IntN.{ℤ}
 use lib.ListN.{length, take, getD, replicate, length-append, length-replicate}
-use Rattle.oscillator.specs.Word.{Outcome, word, refused, wordOf}
-use Rattle.oscillator.specs.Position.{position}
-use Rattle.oscillator.proofs.Positions.{position-append}
+use Rattle.oscillator_spec.specs.Word.{Outcome, word, refused, wordOf}
+use Rattle.oscillator_spec.specs.Position.{position}
+use Rattle.oscillator_spec.proofs.Positions.{position-append}
 use Rattle.converter_spec.specs.Paper.{Given, feed, retune, Paper, Did, ahead, first, joins, counted, feeds, retunes, does, run, afterwards, positions}
 use Rattle.converter_spec.proofs.Count.{first-length}
 

@@ -8,8 +8,8 @@ use native.Mathlib.Omega.{arith}
 use native.Mathlib.Nat.{zero-add, add-assoc}
 use lib.IntN.{ℤ}
 use lib.ListN.{length, drop}
-use Rattle.oscillator.specs.Register.{stepped, advanceOf}
-use Rattle.oscillator.proofs.Positions.{stepped-below}
+use Rattle.oscillator_spec.specs.Register.{stepped, advanceOf}
+use Rattle.oscillator_spec.proofs.Positions.{stepped-below}
 use Rattle.kernels_spec.specs.Kernel.{kernelOf}
 use Rattle.kernels_spec.specs.Value.{clipOf}
 use Rattle.converter_spec.specs.declared.state.State.{State}

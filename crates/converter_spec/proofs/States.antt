@@ -8,10 +8,10 @@ use borrow.Author.Tests.{leb-true, le-leb, lt-leb}
 use lib.Dec.{leb}
 use lib.IntN.{ℤ, pos}
 use Rattle.integers.specs.Table.{both}
-use Rattle.oscillator.specs.declared.settings.Setting.{Setting}
-use Rattle.oscillator.specs.Word.{Outcome, word, refused, isWord, wordOf}
-use Rattle.oscillator.proofs.Positions.{advance-le, basepoint-phase}
-use Rattle.oscillator.proofs.Words.{word-is, is-word, word-within, refusal-within}
+use Rattle.oscillator_spec.specs.declared.settings.Setting.{Setting}
+use Rattle.oscillator_spec.specs.Word.{Outcome, word, refused, isWord, wordOf}
+use Rattle.oscillator_spec.proofs.Positions.{advance-le, basepoint-phase}
+use Rattle.oscillator_spec.proofs.Words.{word-is, is-word, word-within, refusal-within}
 use Rattle.kernels_spec.specs.Kernel.{kernelOf}
 use Rattle.kernels_spec.proofs.Rows.{reach-most}
 use Rattle.converter_spec.specs.declared.state.State.{State}

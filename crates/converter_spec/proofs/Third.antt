@@ -8,8 +8,8 @@ use borrow.Author.Tests.{lt-ltb}
 use lib.IntN.{ℤ, pos}
 use lib.ListN.{length, take, drop, getD, length-append, length-map}
 use lib.Seq.{take-append-seam, length-take-le}
-use Rattle.oscillator.specs.declared.settings.Setting.{Setting}
-use Rattle.oscillator.specs.Word.{Outcome, word, refused, wordOf}
+use Rattle.oscillator_spec.specs.declared.settings.Setting.{Setting}
+use Rattle.oscillator_spec.specs.Word.{Outcome, word, refused, wordOf}
 use Rattle.kernels_spec.specs.Kernel.{Kernel, kernelOf}
 use Rattle.kernels_spec.specs.Value.{value}
 use Rattle.kernels_spec.specs.Distance.{CloseAt}

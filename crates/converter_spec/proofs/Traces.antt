@@ -7,7 +7,7 @@ use Prim.Native.Nat.{ℕ, zero, suc}
 use native.Mathlib.Omega.{arith}
 use lib.IntN.{ℤ}
 use lib.ListN.{length}
-use Rattle.oscillator.specs.declared.settings.Setting.{Setting}
+use Rattle.oscillator_spec.specs.declared.settings.Setting.{Setting}
 use Rattle.converter_spec.specs.declared.state.State.{State}
 use Rattle.converter_spec.specs.declared.feeding.Fed.{Fed}
 use Rattle.converter_spec.specs.declared.feeding.End.{End}

@@ -10,7 +10,7 @@ use mathlib.Core.Logic.{_↔_}
 use Prim.Native.Nat.{ℕ, _+_, _^_, _<_}
 use lib.IntN.{ℤ, pos}
 use lib.ListN.{length, take, getD}
-use Rattle.oscillator.specs.declared.settings.Setting.{Setting}
+use Rattle.oscillator_spec.specs.declared.settings.Setting.{Setting}
 use Rattle.kernels_spec.specs.Kernel.{Kernel, kernelOf}
 use Rattle.kernels_spec.specs.Value.{value, valueClips}
 use Rattle.kernels_spec.specs.Distance.{CloseAt}

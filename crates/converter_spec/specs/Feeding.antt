@@ -7,7 +7,7 @@ use mathlib.Core.List.{List, [], _∷_, _++_}
 use Prim.Native.Nat.{ℕ, zero, suc, _+_, _-_}
 use lib.IntN.{ℤ}
 use lib.ListN.{length, drop}
-use Rattle.oscillator.specs.Register.{stepped, advanceOf}
+use Rattle.oscillator_spec.specs.Register.{stepped, advanceOf}
 use Rattle.kernels_spec.specs.Kernel.{kernelOf}
 use Rattle.kernels_spec.specs.Value.{outputOf, clipOf}
 use Rattle.converter_spec.specs.declared.state.State.{State}

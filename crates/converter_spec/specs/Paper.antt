@@ -6,8 +6,8 @@ use Prim.Native.Nat.{ℕ, zero, suc, _+_, _-_, _*_, _^_, _≤_, _<_}
 use lib.Dec.{leb, ltb}
 use lib.IntN.{ℤ}
 use lib.ListN.{length, take}
-use Rattle.oscillator.specs.declared.settings.Setting.{Setting}
-use Rattle.oscillator.specs.Word.{Outcome, word, refused, wordOf}
+use Rattle.oscillator_spec.specs.declared.settings.Setting.{Setting}
+use Rattle.oscillator_spec.specs.Word.{Outcome, word, refused, wordOf}
 use Rattle.kernels_spec.specs.Kernel.{Kernel, kernelOf}
 use Rattle.converter_spec.specs.Start.{lastRead}
 use Rattle.converter_spec.specs.Feeding.{HUNGRY, FULL}

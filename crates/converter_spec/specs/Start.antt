@@ -4,9 +4,9 @@ use mathlib.Core.List.{List, [], _∷_}
 use Prim.Native.Nat.{ℕ, _+_}
 use lib.Dec.{leb}
 use lib.IntN.{ℤ, pos}
-use Rattle.oscillator.specs.declared.settings.Setting.{Setting}
-use Rattle.oscillator.specs.Word.{Outcome, word, refused, isWord, wordOf}
-use Rattle.oscillator.specs.Position.{basepoint}
+use Rattle.oscillator_spec.specs.declared.settings.Setting.{Setting}
+use Rattle.oscillator_spec.specs.Word.{Outcome, word, refused, isWord, wordOf}
+use Rattle.oscillator_spec.specs.Position.{basepoint}
 use Rattle.kernels_spec.specs.Kernel.{Kernel, kernelOf}
 use Rattle.converter_spec.specs.declared.state.State.{State}
 use Rattle.converter_spec.specs.declared.state.Started.{Started}

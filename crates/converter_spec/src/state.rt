@@ -1,6 +1,6 @@
 // The state of a converter, its start, and the change of its word.
-use oscillator::Setting;
-use oscillator::WordAnswer;
+use oscillator_spec::Setting;
+use oscillator_spec::WordAnswer;
 ghost use mathlib.Core.Path.{_≡_};
 ghost use Rattle.converter_spec.specs.Start.{isKernel, isState, neededAt, noState, refusedStart, started, retuned};
 

@@ -4,7 +4,7 @@ use mathlib.Core.List.{List, [], _∷_}
 use Prim.Native.Nat.{ℕ}
 use lib.IntN.{pos, negsuc}
 use Rattle.frames_spec.specs.Line.{read, refused, rest, before10, lineEnd, hasEnd, digitValue, allDigits, numberAfter, byteSum, afterLetter, lineDigits}
-use Rattle.oscillator.specs.Word.{isWord}
+use Rattle.oscillator_spec.specs.Word.{isWord}
 use Rattle.converter_spec.specs.Start.{isKernel}
 use Rattle.frames_spec.specs.Frame.{samplesOf, hasLength, checkHolds, frameOf, dataLine}
 use Rattle.frames_spec.specs.Start.{startOf, startLine}

@@ -3,7 +3,7 @@ use mathlib.Core.List.{List}
 use Prim.Native.Nat.{ℕ}
 use lib.Dec.{eqb}
 use lib.ListN.{length}
-use Rattle.oscillator.specs.Word.{isWord}
+use Rattle.oscillator_spec.specs.Word.{isWord}
 use Rattle.converter_spec.specs.Start.{isKernel}
 use Rattle.frames_spec.specs.declared.answers.StartLine.{StartLine}
 use Rattle.frames_spec.specs.Line.{Read, read, refused, refuseUnless, andThen, lineDigits, field}

@@ -11,9 +11,9 @@ use lib.ListN.{length, drop}
 use mir.Syntax.{w16}
 use mir.Val.{SFits}
 use Rattle.integers.specs.Table.{both}
-use Rattle.oscillator.specs.declared.settings.Setting.{Setting}
-use Rattle.oscillator.specs.Word.{Outcome, word, refused, wordOf}
-use Rattle.oscillator.proofs.Words.{refusal-within}
+use Rattle.oscillator_spec.specs.declared.settings.Setting.{Setting}
+use Rattle.oscillator_spec.specs.Word.{Outcome, word, refused, wordOf}
+use Rattle.oscillator_spec.proofs.Words.{refusal-within}
 use Rattle.converter_spec.specs.declared.state.Retuned.{Retuned}
 use Rattle.converter_spec.specs.declared.feeding.End.the-variants as end
 use Rattle.converter_spec.specs.Start.{isState, started, withWord}

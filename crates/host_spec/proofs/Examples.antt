@@ -7,11 +7,11 @@ use native.Mathlib.Omega.{arith}
 use borrow.Author.Tests.{eq-eqb}
 use lib.IntN.{ℤ, pos}
 use lib.ListN.{length, replicate}
-use Rattle.oscillator.specs.declared.settings.Setting.{Setting}
-use Rattle.oscillator.specs.declared.settings.Setting.the-variants.{Word}
-use Rattle.oscillator.specs.Word.{isWord, inRange}
-use Rattle.oscillator.specs.Position.{basepoint, fraction, fourteenBits}
-use Rattle.oscillator.specs.Register.{registerOf, stepped, carryOf, advanceOf}
+use Rattle.oscillator_spec.specs.declared.settings.Setting.{Setting}
+use Rattle.oscillator_spec.specs.declared.settings.Setting.the-variants.{Word}
+use Rattle.oscillator_spec.specs.Word.{isWord, inRange}
+use Rattle.oscillator_spec.specs.Position.{basepoint, fraction, fourteenBits}
+use Rattle.oscillator_spec.specs.Register.{registerOf, stepped, carryOf, advanceOf}
 use Rattle.kernels_spec.specs.Kernel.{−, kernelOf}
 use Rattle.kernels_spec.specs.Value.{column, polynomial, numerator, unit, nearestWhole, rounded, held, output, outside, clips, filterFraction, windowAt, outputOf, clipOf}
 use Rattle.converter_spec.specs.Start.{isKernel, isState, lastRead, neededAt, started}

@@ -5,7 +5,7 @@ use mathlib.Core.Bool.{true, _&&_}
 use mathlib.Core.List.{List, [], _∷_, map, flatMap}
 use Prim.Native.Nat.{ℕ, _^_, _<_}
 use lib.ListN.{length}
-use Rattle.oscillator.specs.declared.settings.Setting.{Setting}
+use Rattle.oscillator_spec.specs.declared.settings.Setting.{Setting}
 use Rattle.converter_spec.specs.Feeding.{FedRight}
 use Rattle.converter_spec.specs.Paper.{begin}
 use Rattle.converter_spec.specs.Demand.{Call, Seen, Agrees}

@@ -8,8 +8,8 @@ use borrow.Author.Tests.{leb-true, le-leb, eqb-true, eq-eqb, ne-eqb}
 use lib.Dec.{leb, eqb}
 use lib.ListN.{length, take, drop}
 use Rattle.integers.specs.Table.{both}
-use Rattle.oscillator.specs.declared.settings.Setting.{Setting}
-use Rattle.oscillator.specs.Word.{word, wordOf}
+use Rattle.oscillator_spec.specs.declared.settings.Setting.{Setting}
+use Rattle.oscillator_spec.specs.Word.{word, wordOf}
 use Rattle.converter_spec.specs.declared.state.Retuned.{Retuned}
 use Rattle.converter_spec.specs.Start.{started, retuned}
 use Rattle.converter_spec.proofs.States.{retune-word}

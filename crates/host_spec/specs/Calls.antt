@@ -6,7 +6,7 @@ use mathlib.Core.List.{List, [], _∷_, flatMap}
 use Prim.Native.Nat.{ℕ, _^_, _<_}
 use lib.Dec.{eqb}
 use lib.ListN.{length}
-use Rattle.oscillator.specs.declared.settings.Setting.{Setting}
+use Rattle.oscillator_spec.specs.declared.settings.Setting.{Setting}
 use Rattle.converter_spec.specs.declared.feeding.Fed.{Fed}
 use Rattle.converter_spec.specs.declared.feeding.End.the-variants as end
 use Rattle.converter_spec.specs.Feeding.{FULL}

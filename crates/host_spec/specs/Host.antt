@@ -5,7 +5,7 @@ use mathlib.Core.List.{List}
 use Prim.Native.Nat.{ℕ, _/_, _%_}
 use lib.Dec.{leb, eqb}
 use lib.ListN.{length}
-use Rattle.oscillator.specs.declared.settings.Setting.{Setting}
+use Rattle.oscillator_spec.specs.declared.settings.Setting.{Setting}
 use Rattle.converter_spec.specs.declared.state.State.{State}
 use Rattle.converter_spec.specs.Start.{started, retuned}
 use Rattle.converter_spec.specs.Feeding.{HUNGRY, Answer, fedOf, outputsOf, over}

@@ -10,7 +10,7 @@ use Rattle.integers.specs.Order.{nn-pos, nn-add, nn-mul, nn-sub}
 use Rattle.integers.specs.Inequality.{by-nn}
 use Rattle.integers.specs.Range.{In, weaken}
 use Rattle.integers.specs.Sample.{IsSample}
-use Rattle.oscillator.proofs.Positions.{fourteen-before}
+use Rattle.oscillator_spec.proofs.Positions.{fourteen-before}
 use Rattle.kernels_spec.specs.Kernel.{Samples, kernelOf}
 use Rattle.kernels_spec.specs.Value.{column, polynomial, numerator, unit, rounded, filterFraction}
 use Rattle.kernels_spec.proofs.Rows.{numeratorE}

@@ -8,9 +8,9 @@ use lib.IntN.{ℤ, pos}
 use lib.ListN.{length, drop, length-append, length-drop, List·getD-append}
 use lib.Seq.{getD-drop, drop-drop, drop-append-le}
 use Rattle.integers.specs.Sample.{IsSample}
-use Rattle.oscillator.specs.Position.{basepoint, fraction, fourteenBits}
-use Rattle.oscillator.specs.Register.{registerOf}
-use Rattle.oscillator.proofs.Positions.{fraction-register}
+use Rattle.oscillator_spec.specs.Position.{basepoint, fraction, fourteenBits}
+use Rattle.oscillator_spec.specs.Register.{registerOf}
+use Rattle.oscillator_spec.proofs.Positions.{fraction-register}
 use Rattle.kernels_spec.specs.Kernel.{Samples, places, Kernel, kernelOf, Agree}
 use Rattle.kernels_spec.specs.Value.{rounded, output, clips, joinedAt, newest, windowAt, filterFraction, value, valueClips, outputOf, clipOf}
 use Rattle.kernels_spec.specs.Distance.{CloseAt}

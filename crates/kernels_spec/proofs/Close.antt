@@ -10,7 +10,7 @@ use lib.Signed.{_<ℤ_}
 use Rattle.integers.specs.Ring.{Expr, var, lit, _:-_, _:*_, ring}
 use Rattle.integers.specs.Range.{In}
 use Rattle.integers.specs.Within.{Within, abs-mul, w-lit, w-sub, w-mul, w-weaken}
-use Rattle.oscillator.specs.Position.{basepoint, fraction}
+use Rattle.oscillator_spec.specs.Position.{basepoint, fraction}
 use Rattle.kernels_spec.specs.Kernel.{Samples, Kernel, kernelOf}
 use Rattle.kernels_spec.specs.Value.{numerator, unit, rounded, held, output, paper, joinedAt, filterFraction, value}
 use Rattle.kernels_spec.specs.Distance.{jump, Close, CloseAt}

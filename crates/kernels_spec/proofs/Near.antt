@@ -13,8 +13,8 @@ use Rattle.integers.specs.Ring.{Expr, var, lit, neg, _:+_, _:-_, _:*_, eval, ri
 use Rattle.integers.specs.Order.{≤ℤ-trans, <ℤ-weak, lt-or-le, nn-pos, nn-sub, nn-mul}
 use Rattle.integers.specs.Inequality.{goal≤, hyp≤, hyp<, by-nn}
 use Rattle.integers.specs.Within.{Within, abs-zero, w-lit, w-add, w-mul, w-weaken, w-high, w-turn, w-both}
-use Rattle.oscillator.specs.Position.{fraction, fourteenBits}
-use Rattle.oscillator.proofs.Positions.{fraction-from, fraction-to, fourteen-is}
+use Rattle.oscillator_spec.specs.Position.{fraction, fourteenBits}
+use Rattle.oscillator_spec.proofs.Positions.{fraction-from, fraction-to, fourteen-is}
 use Rattle.kernels_spec.specs.Kernel.{Samples, Kernel, kernelOf, names}
 use Rattle.kernels_spec.specs.Value.{column, polynomial, numerator, unit, filterFraction}
 use Rattle.kernels_spec.specs.Distance.{gap, jump}

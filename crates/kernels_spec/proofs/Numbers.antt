@@ -8,8 +8,8 @@ use lib.Dec.{eqb}
 use lib.Signed.{leZ-yes}
 use Rattle.integers.specs.Range.{in-w, weaken}
 use Rattle.integers.specs.Within.{Within}
-use Rattle.oscillator.specs.Position.{fraction, fourteenBits}
-use Rattle.oscillator.proofs.Positions.{fourteen-nearest, fourteen-before}
+use Rattle.oscillator_spec.specs.Position.{fraction, fourteenBits}
+use Rattle.oscillator_spec.proofs.Positions.{fourteen-nearest, fourteen-before}
 use Rattle.kernels_spec.specs.Kernel.{entry, kernelOf}
 use Rattle.kernels_spec.specs.Value.{filterFraction}
 

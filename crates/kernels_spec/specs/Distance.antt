@@ -4,7 +4,7 @@ use mathlib.Core.List.{List}
 use Prim.Native.Nat.{ℕ, suc, _+_, _*_, _^_, max}
 use lib.IntN.{ℤ, pos, natAbs, _-ℤ_, _*ℤ_}
 use Rattle.integers.specs.Within.{Within}
-use Rattle.oscillator.specs.Position.{basepoint, fraction}
+use Rattle.oscillator_spec.specs.Position.{basepoint, fraction}
 use Rattle.kernels_spec.specs.Kernel.{Samples, Kernel, names}
 use Rattle.kernels_spec.specs.Value.{unit, paper, joinedAt}
 

@@ -9,7 +9,7 @@ use lib.ListN.{length, drop}
 use lib.Signed.{ltZ}
 use Rattle.integers.specs.Floor.{roundDiv}
 use Rattle.integers.specs.Range.{minZ, maxZ}
-use Rattle.oscillator.specs.Position.{basepoint, fraction, fourteenBits}
+use Rattle.oscillator_spec.specs.Position.{basepoint, fraction, fourteenBits}
 use Rattle.kernels_spec.specs.Kernel.{Samples, places, Kernel}
 
 -- ---- exact

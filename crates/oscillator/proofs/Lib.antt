@@ -1,5 +1,2 @@
-pub mod Positions
-pub mod Words
-mod Rounding
 mod Exact
 mod Ratio

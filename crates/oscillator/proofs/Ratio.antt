@@ -15,9 +15,9 @@ use lib.Ieee.Exact.{HasValue}
 use lib.Ieee.Fits.{up-pos, down-pos, and-l, mul-fits}
 use lib.Ieee.Order.{le-of-values}
 use mir.Facts.{or-yes}
-use Rattle.oscillator.specs.Word.{refused, isWord, inRange, nearestWord, ratioWord}
+use Rattle.oscillator_spec.specs.Word.{refused, isWord, inRange, nearestWord, ratioWord}
 use Rattle.oscillator.proofs.Exact.{less, exact}
-use Rattle.oscillator.proofs.Rounding.{from-halves, too-large}
+use Rattle.oscillator_spec.proofs.Rounding.{from-halves, too-large}
 
 -- the code's 0 and 8
 abbrev pub nought : Float

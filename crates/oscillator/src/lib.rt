@@ -1,4 +1,4 @@
-// Settings to control words, and the oscillator's register. The definitions that the contracts cite stand in specs/.
+// Settings to control words, and the oscillator's register. The contracts cite the definitions of `oscillator_spec`.
 mod register;
 mod settings;
 
@@ -7,7 +7,5 @@ pub use register::basepoint;
 pub use register::carry;
 pub use register::filter_fraction;
 pub use register::step;
-pub use settings::Setting;
-pub use settings::WordAnswer;
 pub use settings::is_word;
 pub use settings::word_of;

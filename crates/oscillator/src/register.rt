@@ -1,8 +1,8 @@
 // The oscillator's 32-bit register: its step, the carry, the basepoint and its advance, and the fraction that the filter uses.
 // `nearest` tells how a kernel places its basepoint: at the nearest sample (kernel 1), or at the sample before (kernels 0, 2, 3).
 ghost use mathlib.Core.Path.{_≡_};
-ghost use Rattle.oscillator.specs.Position.{basepoint, fraction, fourteenBits};
-ghost use Rattle.oscillator.specs.Register.{stepped, carryOf, topBitOf, advanceOf};
+ghost use Rattle.oscillator_spec.specs.Position.{basepoint, fraction, fourteenBits};
+ghost use Rattle.oscillator_spec.specs.Register.{stepped, carryOf, topBitOf, advanceOf};
 
 // The register one word on: it wraps.
 pub fn step(register: u32, word: u64) -> u32

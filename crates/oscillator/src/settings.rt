@@ -1,19 +1,8 @@
-// A setting, and the control word that it stands for.
+// The control word that a setting stands for.
+use oscillator_spec::Setting;
+use oscillator_spec::WordAnswer;
 ghost use mathlib.Core.Path.{_≡_};
-ghost use Rattle.oscillator.specs.Word.{isWord, inRange, ratioWord, ratesWord, wordOf, outcomeOf};
-
-// A setting as it arrives: a word, the measured ratio of the input rate to the output rate, or the two rates in hertz, input first.
-pub enum Setting {
-    Word(u64),
-    Ratio(f64),
-    Rates(u32, u32),
-}
-
-// The control word of a setting, or the number of its refusal.
-pub enum WordAnswer {
-    Word(u64),
-    Refused(u8),
-}
+ghost use Rattle.oscillator_spec.specs.Word.{isWord, inRange, ratioWord, ratesWord, wordOf, outcomeOf};
 
 // The word of a ratio of 1, as a float and as an integer: 2^32.
 const UNIT_FLOAT: f64 = 4294967296.0;

@@ -6,7 +6,7 @@ use crate::text::put_refusal;
 use converter_spec::End;
 use converter_spec::Fed;
 use converter_spec::State;
-use oscillator::Setting;
+use oscillator_spec::Setting;
 use program_spec::Next;
 use program_spec::Stream;
 use program_spec::Turn;

@@ -2,8 +2,8 @@
 use mathlib.Core.Path.{_≡_, refl}
 use mathlib.Core.List.{List, [], _∷_, _++_}
 use Prim.Native.Nat.{ℕ, zero, suc}
-use Rattle.oscillator.specs.Word.{isWord}
-use Rattle.oscillator.specs.Position.{basepoint, fraction, fourteenBits}
+use Rattle.oscillator_spec.specs.Word.{isWord}
+use Rattle.oscillator_spec.specs.Position.{basepoint, fraction, fourteenBits}
 use Rattle.kernels_spec.specs.Kernel.{kernelOf}
 use Rattle.kernels_spec.specs.Value.{column, polynomial, numerator, unit, nearestWhole, rounded, held, output, outside, clips, joinedAt, filterFraction, value, valueClips}
 use Rattle.converter_spec.specs.Start.{isKernel, lastRead}

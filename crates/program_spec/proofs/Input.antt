@@ -8,7 +8,7 @@ use borrow.Author.Tests.{ltb-true, ltb-false, lt-ltb}
 use lib.Dec.{leb, ltb, eqb}
 use lib.ListN.{length, take, drop, length-append, length-take, length-drop}
 use lib.Seq.{take-append-le, drop-append-le}
-use Rattle.oscillator.specs.Word.{isWord}
+use Rattle.oscillator_spec.specs.Word.{isWord}
 use Rattle.converter_spec.specs.Start.{isKernel}
 use Rattle.frames_spec.specs.Line.{before10, lineEnd, hasEnd, allDigits, Read, read, refused, refuseUnless, andThen, afterLetter, lineDigits, rest}
 use Rattle.frames_spec.specs.Frame.{Frame, countOf, hasLength, checkHolds, frameOf, dataLine}

@@ -11,8 +11,8 @@ use Rattle.integers.specs.Table.{both}
 use lib.IntN.{ℤ}
 use lib.ListN.{length, drop, length-append, length-drop}
 use lib.Seq.{drop-append-le, drop-drop, drop-length, drop-nil}
-use Rattle.oscillator.specs.declared.settings.Setting.the-variants as setting
-use Rattle.oscillator.specs.Word.{word, inRange}
+use Rattle.oscillator_spec.specs.declared.settings.Setting.the-variants as setting
+use Rattle.oscillator_spec.specs.Word.{word, inRange}
 use Rattle.kernels_spec.specs.Kernel.{Kernel, kernelOf}
 use Rattle.kernels_spec.specs.Value.{value}
 use Rattle.converter_spec.specs.declared.state.Started.{Started}

@@ -6,7 +6,7 @@ use Prim.Native.Nat.{ℕ, _+_, _/_, _%_, _^_}
 use lib.Dec.{ltb, eqb}
 use lib.IntN.{ℤ}
 use lib.ListN.{length, drop}
-use Rattle.oscillator.specs.declared.settings.Setting.the-variants as setting
+use Rattle.oscillator_spec.specs.declared.settings.Setting.the-variants as setting
 use Rattle.converter_spec.specs.Start.{noState, started}
 use Rattle.converter_spec.specs.Feeding.{HUNGRY, Answer, fedOf, outputsOf, over}
 use Rattle.frames_spec.specs.Line.{lineLimit, Read, read, refused, used}

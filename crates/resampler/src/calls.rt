@@ -7,13 +7,13 @@ use crate::image::is_forty;
 use crate::image::is_image;
 use converter_spec::End;
 use host_spec::Saved;
-use oscillator::Setting;
+use oscillator_spec::Setting;
 ghost use mathlib.Core.Path.{_≡_};
 ghost use mathlib.Core.Bool.{true};
 ghost use Prim.Native.Nat.{_≤_};
 ghost use lib.ListN.{length};
 ghost use Rattle.converter_spec.specs.Feeding.{endNumber};
-ghost use Rattle.oscillator.specs.declared.settings.Setting.the-variants as setting;
+ghost use Rattle.oscillator_spec.specs.declared.settings.Setting.the-variants as setting;
 ghost use Rattle.host_spec.specs.Image.{isImage};
 ghost use Rattle.host_spec.specs.Host.{isBuffer, reply, feedReply, hostStart, hostRetune, hostFeed, imageFed, outputFed};
 

@@ -7,10 +7,10 @@ use Prim.Native.Nat.{ℕ, _^_}
 use lib.Ieee.{Float, fin}
 use lib.IntN.{ℤ, pos}
 use lib.ListN.{length}
-use Rattle.oscillator.specs.declared.settings.Setting.the-variants.{Word, Ratio, Rates}
-use Rattle.oscillator.specs.Word.{word, refused, isWord, inRange, nearestWord, ratioWord, ratesWord, wordOf}
-use Rattle.oscillator.specs.Position.{position, basepoint, fraction, fourteenBits}
-use Rattle.oscillator.specs.Register.{registerOf, stepped, carryOf, topBitOf, advanceOf}
+use Rattle.oscillator_spec.specs.declared.settings.Setting.the-variants.{Word, Ratio, Rates}
+use Rattle.oscillator_spec.specs.Word.{word, refused, isWord, inRange, nearestWord, ratioWord, ratesWord, wordOf}
+use Rattle.oscillator_spec.specs.Position.{position, basepoint, fraction, fourteenBits}
+use Rattle.oscillator_spec.specs.Register.{registerOf, stepped, carryOf, topBitOf, advanceOf}
 use Rattle.kernels_spec.specs.Kernel.{four, −, kernelOf}
 use Rattle.kernels_spec.specs.Value.{column, polynomial, numerator, unit, nearestWhole, rounded, held, output, outside, clips, filterFraction, windowAt, outputOf, clipOf}
 use Rattle.converter_spec.specs.declared.state.State.{State}

@@ -3,7 +3,7 @@ use borrow.Author.Needs.{needs}
 use mathlib.Core.Path.{_≡_, ap, _∙_}
 use Prim.Native.Nat.{_+_, _<_}
 use native.Mathlib.Omega.{arith}
-use Rattle.oscillator.specs.Position.{basepoint}
+use Rattle.oscillator_spec.specs.Position.{basepoint}
 use Rattle.converter_spec.specs.Start.{lastRead, neededAt}
 use Rattle.converter_spec.proofs.States.{needed-most}
 use Rattle.converter_spec.proofs.state.needed_at.Statement.{statement}

@@ -2,7 +2,7 @@
 use borrow.Author.Needs.{needs}
 use borrow.Author.Tests.{not-true, not-false}
 use mathlib.Core.Path.{sym, ap, _∙_}
-use Rattle.oscillator.specs.Word.{outcomeOf}
+use Rattle.oscillator_spec.specs.Word.{outcomeOf}
 use Rattle.converter_spec.specs.Start.{started}
 use Rattle.converter_spec.proofs.state.start.Statement.{statement}
 use Rattle.converter_spec.proofs.state.start.Tie as tie

@@ -6,7 +6,7 @@ use mathlib.Core.Bool.{true}
 use native.Mathlib.Omega.{arith}
 use lib.Seq.{length-take-le}
 use denote.Ref.{now}
-use Rattle.oscillator.specs.Word.{isWord}
+use Rattle.oscillator_spec.specs.Word.{isWord}
 use Rattle.converter_spec.specs.Start.{isKernel}
 use Rattle.frames_spec.specs.Start.{fieldsOf, startAnswer}
 use Rattle.frames_spec.proofs.Fronts.{field-right, field-below}

@@ -3,7 +3,7 @@ use borrow.Author.Needs.{needs, sfits-of}
 use mathlib.Core.Path.{_∙_, ap}
 use mathlib.Core.Bool.{Bool}
 use mir.Facts.{toZ-ofZ}
-use Rattle.oscillator.specs.Position.{fraction, fourteenBits}
+use Rattle.oscillator_spec.specs.Position.{fraction, fourteenBits}
 use Rattle.kernels_spec.specs.Value.{filterFraction}
 use Rattle.kernels.proofs.filter.filter_fraction.Statement.{statement}
 use Rattle.kernels.proofs.filter.filter_fraction.Tie as tie

@@ -4,8 +4,8 @@ use mathlib.Core.Bool.{Bool, true, false}
 use Prim.Native.Nat.{ℕ, _+_, _-_, _/_, _^_, _≤_, _<_}
 use native.Mathlib.Omega.{arith}
 use borrow.Author.Needs.{needs}
-use Rattle.oscillator.specs.Register.{carryOf, topBitOf, advanceOf}
-use Rattle.oscillator.proofs.Positions.{carry-le, top-le}
+use Rattle.oscillator_spec.specs.Register.{carryOf, topBitOf, advanceOf}
+use Rattle.oscillator_spec.proofs.Positions.{carry-le, top-le}
 use Rattle.oscillator.proofs.register.advance.Statement.{statement}
 use Rattle.oscillator.proofs.register.advance.Tie as tie
 

@@ -1,7 +1,7 @@
 -- `oscillator::register::basepoint` meets its contract: the top bit, where the basepoint is rounded. Assumes nothing.
 use mathlib.Core.Path.{sym, _∙_}
 use borrow.Author.Needs.{needs}
-use Rattle.oscillator.proofs.Positions.{basepoint-of}
+use Rattle.oscillator_spec.proofs.Positions.{basepoint-of}
 use Rattle.oscillator.proofs.register.basepoint.Statement.{statement}
 use Rattle.oscillator.proofs.register.basepoint.Tie as tie
 

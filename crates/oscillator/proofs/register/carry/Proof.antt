@@ -1,6 +1,6 @@
 -- `oscillator::register::carry` meets its contract: each way to a return rewrites with the test that led there. Assumes nothing.
 use borrow.Author.Tests.{lt-ltb, le-ltb}
-use Rattle.oscillator.specs.Register.{carryOf}
+use Rattle.oscillator_spec.specs.Register.{carryOf}
 use Rattle.oscillator.proofs.register.carry.Statement.{statement}
 use Rattle.oscillator.proofs.register.carry.Tie as tie
 

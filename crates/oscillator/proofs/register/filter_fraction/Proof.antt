@@ -3,7 +3,7 @@ use mathlib.Core.Path.{_∙_, ap}
 use Prim.Native.Nat.{_^_}
 use borrow.Author.Needs.{needs}
 use Rattle.integers.specs.Operations.{shr-whole}
-use Rattle.oscillator.specs.Position.{fourteenBits}
+use Rattle.oscillator_spec.specs.Position.{fourteenBits}
 use Rattle.oscillator.proofs.register.filter_fraction.Statement.{statement}
 use Rattle.oscillator.proofs.register.filter_fraction.Tie as tie
 

@@ -14,7 +14,7 @@ use Rattle.integers.specs.Range.{_to_}
 use Rattle.integers.specs.Ring.{Expr, loc, lit, _:-_}
 use Rattle.integers.specs.Machine.{Known, none, _&_, fits, computes}
 use Rattle.integers.specs.Operations.{Reads, r-unsigned, r-in}
-use Rattle.oscillator.specs.Position.{basepoint, fraction}
+use Rattle.oscillator_spec.specs.Position.{basepoint, fraction}
 use Rattle.oscillator.proofs.register.fraction.Statement.{statement}
 use Rattle.oscillator.proofs.register.fraction.Tie as tie
 

@@ -1,6 +1,6 @@
 -- `oscillator::register::step` meets its contract: the whole part of the word adds nothing to the register. Assumes nothing.
 use borrow.Author.Needs.{needs}
-use Rattle.oscillator.specs.Register.{registerOf, stepped}
+use Rattle.oscillator_spec.specs.Register.{registerOf, stepped}
 use Rattle.oscillator.proofs.register.step.Statement.{statement}
 use Rattle.oscillator.proofs.register.step.Tie as tie
 

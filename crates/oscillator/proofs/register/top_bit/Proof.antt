@@ -1,6 +1,6 @@
 -- `oscillator::register::top_bit` meets its contract. Assumes nothing.
 use borrow.Author.Needs.{needs}
-use Rattle.oscillator.specs.Register.{topBitOf}
+use Rattle.oscillator_spec.specs.Register.{topBitOf}
 use Rattle.oscillator.proofs.register.top_bit.Statement.{statement}
 use Rattle.oscillator.proofs.register.top_bit.Tie as tie
 

@@ -1,7 +1,7 @@
 -- `oscillator::settings::in_range` meets its contract. Assumes nothing.
 use mathlib.Core.Path.{sym, _∙_}
 use borrow.Author.Needs.{needs}
-use Rattle.oscillator.specs.Word.{inRange}
+use Rattle.oscillator_spec.specs.Word.{inRange}
 use Rattle.oscillator.proofs.settings.in_range.Statement.{statement}
 use Rattle.oscillator.proofs.settings.in_range.Tie as tie
 

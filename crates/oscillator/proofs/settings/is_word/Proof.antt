@@ -2,7 +2,7 @@
 use Prim.Native.Nat.{_≤_, _<_}
 use native.Mathlib.Omega.{arith}
 use borrow.Author.Tests.{le-leb, lt-leb}
-use Rattle.oscillator.specs.Word.{isWord}
+use Rattle.oscillator_spec.specs.Word.{isWord}
 use Rattle.oscillator.proofs.settings.is_word.Statement.{statement}
 use Rattle.oscillator.proofs.settings.is_word.Tie as tie
 

@@ -1,7 +1,7 @@
 -- `oscillator::settings::word_of` meets its contract: the setting is taken apart, and each arm is a call. Assumes nothing.
 use mathlib.Core.Path.{sym, ap, _∙_}
 use borrow.Author.Needs.{needs}
-use Rattle.oscillator.specs.Word.{wordOf}
+use Rattle.oscillator_spec.specs.Word.{wordOf}
 use Rattle.oscillator.proofs.settings.word_of.Statement.{statement}
 use Rattle.oscillator.proofs.settings.word_of.Tie as tie
 

@@ -3,8 +3,8 @@ use mathlib.Core.Path.{_≡_, ap, _∙_}
 use Prim.Native.Nat.{ℕ}
 use borrow.Author.Needs.{needs}
 use borrow.Author.Tests.{eq-eqb, ne-eqb}
-use Rattle.oscillator.specs.Word.{inRange, nearestWord, ratesWord}
-use Rattle.oscillator.proofs.Rounding.{by-half}
+use Rattle.oscillator_spec.specs.Word.{inRange, nearestWord, ratesWord}
+use Rattle.oscillator_spec.proofs.Rounding.{by-half}
 use Rattle.oscillator.proofs.settings.word_of_rates.Statement.{statement}
 use Rattle.oscillator.proofs.settings.word_of_rates.Tie as tie
 

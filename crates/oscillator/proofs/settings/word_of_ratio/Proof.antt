@@ -8,7 +8,7 @@ use borrow.Author.Needs.{needs}
 use borrow.Author.Tests.{not-true, not-false}
 use lib.Dec.{T}
 use lib.Ieee.{binary64, fits, le, div, ofBits}
-use Rattle.oscillator.specs.Word.{inRange}
+use Rattle.oscillator_spec.specs.Word.{inRange}
 use Rattle.oscillator.proofs.Ratio.{Product, nought, halfWords, below-zero, infinite, from-eight, under-eight}
 use Rattle.oscillator.proofs.settings.word_of_ratio.Statement.{statement}
 use Rattle.oscillator.proofs.settings.word_of_ratio.Tie as tie

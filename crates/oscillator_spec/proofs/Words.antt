@@ -6,10 +6,11 @@ use native.Mathlib.Omega.{arith}
 use borrow.Author.Tests.{leb-true, le-leb, not-false}
 use lib.Dec.{leb, eqb}
 use lib.Ieee.{nan, inf, fin, up, down}
+use lib.IntN.{ℤ}
 use Rattle.integers.specs.Table.{both}
-use Rattle.oscillator.specs.declared.settings.Setting.{Setting}
-use Rattle.oscillator.specs.declared.settings.Setting.the-variants as setting
-use Rattle.oscillator.specs.Word.{Outcome, word, refused, refuseIf, isWord, inRange, nearestWord, ratioWord, ratesWord, wordOf}
+use Rattle.oscillator_spec.specs.declared.settings.Setting.{Setting}
+use Rattle.oscillator_spec.specs.declared.settings.Setting.the-variants as setting
+use Rattle.oscillator_spec.specs.Word.{Outcome, word, refused, refuseIf, isWord, inRange, nearestWord, ratioWord, ratesWord, wordOf}
 
 -- ---- the test, both ways
 pub word-is : (w : ℕ) → 1 ≤ w → w ≤ 2 ^ 34 → isWord w ≡ true
@@ -49,3 +50,20 @@ word-within s w e = rw e at (sound s)
 
 pub refusal-within : (s : Setting) (n : ℕ) → wordOf s ≡ refused n → (2 ≤ n) × (n ≤ 4)
 refusal-within s n e = rw e at (sound s)
+
+-- ---- refusal 2: "ratio not finite, or below zero (minus zero is zero)"
+pub ratio-not-a-number : ratioWord nan ≡ refused 2
+unfolding ratioWord
+ratio-not-a-number = refl
+
+pub ratio-infinite : (s : Bool) → ratioWord (inf s) ≡ refused 2
+unfolding ratioWord
+ratio-infinite s = refl
+
+pub ratio-below : (m : ℕ) (e : ℤ) → ratioWord (fin true (suc m) e) ≡ refused 2
+unfolding ratioWord
+ratio-below m e = refl
+
+pub ratio-minus-zero : (e : ℤ) → ratioWord (fin true zero e) ≡ inRange 0
+unfolding ratioWord
+ratio-minus-zero e = refl

@@ -5,10 +5,10 @@ use lib.Dec.{leb, eqb}
 use lib.Ieee.{Float, nan, inf, fin, up, down}
 use lib.IntN.{pos, natAbs}
 use Rattle.integers.specs.Floor.{roundDiv}
-use Rattle.oscillator.specs.declared.settings.Setting.{Setting}
-use Rattle.oscillator.specs.declared.settings.Setting.the-variants as setting
-use Rattle.oscillator.specs.declared.settings.WordAnswer.{WordAnswer}
-use Rattle.oscillator.specs.declared.settings.WordAnswer.the-variants as answer
+use Rattle.oscillator_spec.specs.declared.settings.Setting.{Setting}
+use Rattle.oscillator_spec.specs.declared.settings.Setting.the-variants as setting
+use Rattle.oscillator_spec.specs.declared.settings.WordAnswer.{WordAnswer}
+use Rattle.oscillator_spec.specs.declared.settings.WordAnswer.the-variants as answer
 
 -- what a setting comes to: a control word, or a refusal by document 01's number
 pub data Outcome : Type 0 where

@@ -13,8 +13,8 @@ use Rattle.integers.specs.Difference.{ω-add, ω-neg, ω-minus}
 use Rattle.integers.specs.Order.{ωℤ}
 use Rattle.integers.specs.Floor.{floorDiv, IsFloor, floor-is}
 use Rattle.integers.specs.Range.{In, i-floor}
-use Rattle.oscillator.specs.Position.{position, half, basepoint, fraction, fourteenBits}
-use Rattle.oscillator.specs.Register.{registerOf, stepped, steps, carryOf, topBitOf, advanceOf}
+use Rattle.oscillator_spec.specs.Position.{position, half, basepoint, fraction, fourteenBits}
+use Rattle.oscillator_spec.specs.Register.{registerOf, stepped, steps, carryOf, topBitOf, advanceOf}
 
 -- ---- positions: "start + sum of the words before", and in two parts
 pub position-sum : (p : ℕ) (ws : List ℕ) → position p ws ≡ p + foldr _+_ 0 ws

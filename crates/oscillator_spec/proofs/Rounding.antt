@@ -3,7 +3,7 @@ use mathlib.Core.Path.{_≡_, sym, ap, _∙_}
 use Prim.Native.Nat.{ℕ, _+_, _*_, _/_, _^_, _≤_, _<_}
 use native.Mathlib.Nat.{add-div-right, div-div-eq-div-mul, le-div-iff-mul-le, mul-comm}
 use native.Mathlib.Omega.{arith}
-use Rattle.oscillator.specs.Word.{nearestWord}
+use Rattle.oscillator_spec.specs.Word.{nearestWord}
 
 -- the definition in naturals
 in-naturals : (a c : ℕ) → nearestWord a c ≡ (2 * (a * 2 ^ 32) + c) / (2 * c)
