@@ -1,8 +1,19 @@
 /* Times resampler_feed of the C library against the same converter in plain C, in one process and in turn, and prints
    the best time of each in nanoseconds an output, with their ratio; for an empty call, nanoseconds a call. A stream
    is fed in blocks, with ample space, and the image carried on; the time includes the calls. It stops where the two
-   leave different outputs or images. With the word `loud` the signal is noise over the whole range, which makes
-   clips. */
+   leave different outputs or images.
+
+   Built with OLD it holds and times an older archive too, whose symbols begin with `old_`, and prints the best time of
+   the new one, new / C and new / old. Each ratio is the median over the runs of the ratio of two neighbouring runs,
+   which other work on the machine disturbs less than the ratio of the best times.
+
+   With the word `loud` the signal is noise over the whole range, which makes clips. With the word `half` it is noise of
+   at most 128 either way, which makes none, and there are only the rows of word 2^31: every second output stands in the
+   middle between two samples, and half of those of the linear kernel on a half, at random. At the other words next to
+   none do.
+
+   `compare --count FILE`, under callgrind as bench/run calls it, prints instructions instead of nanoseconds, of one
+   shorter stream each. */
 #define _POSIX_C_SOURCE 199309L
 #include "plain.h"
 #include "resampler.h"
@@ -12,18 +23,69 @@
 #include <string.h>
 #include <time.h>
 
+typedef uint32_t start_function(uint8_t *, size_t, uint32_t, uint64_t, uint32_t);
 typedef uint32_t feed_function(uint8_t *, size_t, const uint8_t *, size_t, uint8_t *, size_t);
 
+#ifdef OLD
+start_function old_resampler_start_word;
+feed_function old_resampler_feed;
+#endif
+
+static const struct maker {
+    start_function *start;
+    feed_function *feed;
+} makers[] = {
+    {resampler_start_word, resampler_feed},
+    {resampler_start_word, plain_host_feed},
+#ifdef OLD
+    {old_resampler_start_word, old_resampler_feed},
+#endif
+};
+
+enum { NEW, PLAIN, BEFORE, MAKERS = sizeof makers / sizeof makers[0] };
 enum { IMAGE = RESAMPLER_IMAGE_BYTES, SPACE = RESAMPLER_LARGEST_BUFFER };
-enum { SAMPLES = 1 << 18, OUTPUT_BYTES = 4 * SAMPLES + SPACE, CALLS = 20000 };
+enum { SAMPLES = 1 << 18, COUNTED_SAMPLES = 1 << 16, OUTPUT_BYTES = 4 * SAMPLES + SPACE, CALLS = 20000 };
 enum { ROWS = 32, ROUNDS = 8, RUNS = 50 }; /* the rounds lie apart in time, as other work on the machine does */
 
-static uint8_t input[2 * SAMPLES], output[OUTPUT_BYTES], other[OUTPUT_BYTES];
+static uint8_t input[2 * SAMPLES], outputs[MAKERS][OUTPUT_BYTES];
+static const char *dumps; /* where callgrind writes, or null where time is measured */
+static size_t samples = SAMPLES;
 
-/* The processor time of this process, in nanoseconds: other work on the machine disturbs it less than the clock. */
+static void fail(const char *what)
+{
+    fprintf(stderr, "compare: %s\n", what);
+    exit(1);
+}
+
+/* Callgrind writes what it counted since the last time to a new file when this is entered: `dumps` with a number. It
+   collects in the feeds only. Returns the instructions so far. */
+__attribute__((noinline)) static double instructions(void)
+{
+    static unsigned files;
+    static double sum;
+    char path[4096], line[4096];
+    double count = -1;
+    snprintf(path, sizeof path, "%s.%u", dumps, ++files);
+    FILE *file = fopen(path, "r");
+    if (!file)
+        fail("no counts: not under callgrind");
+    while (fgets(line, sizeof line, file))
+        if (strncmp(line, "totals: ", 8) == 0)
+            count = strtod(line + 8, NULL);
+    fclose(file);
+    remove(path);
+    if (count < 0)
+        fail("no total in the counts");
+    return sum += count;
+}
+
+/* The processor time of this process, in nanoseconds: other work on the machine disturbs it less than the clock. Or the
+   instructions so far. */
 static double now(void)
 {
     struct timespec t;
+    if (dumps)
+        return instructions();
     clock_gettime(CLOCK_PROCESS_CPUTIME_ID, &t);
     return (double)t.tv_sec * 1e9 + (double)t.tv_nsec;
 }
@@ -34,8 +96,8 @@ static uint32_t draw(uint32_t *seed)
     return *seed >> 16;
 }
 
-/* A triangle of some 90 samples with a little noise, at nine tenths of the range, or noise over the whole range. */
-static void fill(int loud)
+/* A triangle of some 90 samples with a little noise, at nine tenths of the range, or noise alone, large or small. */
+static void fill(int loud, int half)
 {
     uint32_t seed = 1;
     uint32_t phase = 0;
@@ -44,29 +106,25 @@ static void fill(int loud)
         int32_t ramp = (int32_t)(phase >> 15) - 65536;
         int32_t triangle = (ramp < 0 ? -ramp : ramp) - 32768;
         int32_t noise = (int32_t)draw(&seed) - 32768;
-        resampler_put_sample(input, i, (int16_t)(loud ? noise : triangle * 7 / 8 + noise / 40));
+        resampler_put_sample(input, i,
+                             (int16_t)(loud ? noise : half ? noise / 256 : triangle * 7 / 8 + noise / 40));
     }
 }
 
-static void fail(const char *what)
+static void start(const struct maker *maker, uint8_t *image, uint32_t kernel, uint64_t word)
 {
-    fprintf(stderr, "compare: %s\n", what);
-    exit(1);
-}
-
-static void start(uint8_t *image, uint32_t kernel, uint64_t word)
-{
-    if (resampler_start_word(image, IMAGE, kernel, word, 0) != RESAMPLER_ACCEPTED)
+    if (maker->start(image, IMAGE, kernel, word, 0) != RESAMPLER_ACCEPTED)
         fail("start refused");
 }
 
 /* Feeds all samples in blocks, and returns the time. */
-static double stream(feed_function *feed, uint32_t kernel, uint64_t word, size_t block, uint8_t *to)
+static double stream(const struct maker *maker, uint32_t kernel, uint64_t word, size_t block, uint8_t *to)
 {
     uint8_t image[IMAGE];
-    start(image, kernel, word);
+    feed_function *feed = maker->feed;
+    start(maker, image, kernel, word);
     double began = now();
-    for (size_t at = 0; at < SAMPLES; at += block) {
+    for (size_t at = 0; at < samples; at += block) {
         if (feed(image, IMAGE, input + 2 * at, 2 * block, to, SPACE) != RESAMPLER_ACCEPTED)
             fail("feed refused");
         to += 2 * resampler_written(image);
@@ -74,90 +132,152 @@ static double stream(feed_function *feed, uint32_t kernel, uint64_t word, size_t
     return now() - began;
 }
 
-/* Feeds both converters, compares what each call leaves, and returns the number of outputs. */
+static void compare_outputs(void)
+{
+    for (size_t i = 1; i < MAKERS; i++)
+        if (memcmp(outputs[i], outputs[NEW], OUTPUT_BYTES) != 0)
+            fail(i == PLAIN ? "the outputs differ" : "the outputs differ from the older archive's");
+}
+
+/* Feeds all converters, compares what each call leaves, and returns the number of outputs. */
 static size_t compare(uint32_t kernel, uint64_t word, size_t block)
 {
-    uint8_t image[IMAGE], plain[IMAGE];
+    uint8_t images[MAKERS][IMAGE];
     size_t made = 0;
-    start(image, kernel, word);
-    memcpy(plain, image, IMAGE);
-    memset(output, 0, OUTPUT_BYTES);
-    memset(other, 0, OUTPUT_BYTES);
-    for (size_t at = 0; at < SAMPLES; at += block) {
-        uint32_t r = resampler_feed(image, IMAGE, input + 2 * at, 2 * block, output + 2 * made, SPACE);
-        uint32_t s = plain_host_feed(plain, IMAGE, input + 2 * at, 2 * block, other + 2 * made, SPACE);
-        if (r != s || memcmp(image, plain, IMAGE) != 0)
-            fail("the images differ");
-        if (resampler_end(image) != RESAMPLER_HUNGRY)
+    for (size_t i = 0; i < MAKERS; i++)
+        start(&makers[i], images[i], kernel, word);
+    memset(outputs, 0, sizeof outputs);
+    for (size_t at = 0; at < samples; at += block) {
+        uint32_t returned[MAKERS];
+        for (size_t i = 0; i < MAKERS; i++) {
+            returned[i] = makers[i].feed(images[i], IMAGE, input + 2 * at, 2 * block, outputs[i] + 2 * made, SPACE);
+            if (returned[i] != returned[NEW] || memcmp(images[i], images[NEW], IMAGE) != 0)
+                fail(i == PLAIN ? "the images differ" : "the images differ from the older archive's");
+        }
+        if (resampler_end(images[NEW]) != RESAMPLER_HUNGRY)
             fail("too little space");
-        made += resampler_written(image);
+        made += resampler_written(images[NEW]);
     }
-    if (memcmp(output, other, OUTPUT_BYTES) != 0)
-        fail("the outputs differ");
+    compare_outputs();
     return made;
 }
 
-static double least(double x, double y)
+/* The times of one case: the best of each, and in each run the new one's over that of each. */
+struct times {
+    size_t runs;
+    double best[MAKERS], ratios[MAKERS][ROUNDS * RUNS];
+};
+
+static void add_run(struct times *times, const double *run)
 {
-    return x < y ? x : y;
+    for (size_t i = 0; i < MAKERS; i++) {
+        if (times->runs == 0 || run[i] < times->best[i])
+            times->best[i] = run[i];
+        times->ratios[i][times->runs] = run[NEW] / run[i];
+    }
+    times->runs++;
 }
 
-/* A row of the table, with the best times so far. */
+static int order(const void *left, const void *right)
+{
+    double x = *(const double *)left, y = *(const double *)right;
+    return (x > y) - (x < y);
+}
+
+static double median(struct times *times, size_t maker)
+{
+    qsort(times->ratios[maker], times->runs, sizeof(double), order);
+    return times->ratios[maker][times->runs / 2];
+}
+
+/* A row of the table. */
 struct row {
     uint32_t kernel;
     size_t block;
     double ratio;
     size_t made;
-    double library, plain;
+    struct times times;
 };
 
-static void time_row(struct row *row)
+static void time_row(struct row *row, int runs)
 {
     uint64_t word = (uint64_t)(row->ratio * 4294967296.0);
     row->made = compare(row->kernel, word, row->block);
-    for (int run = 0; run < RUNS; run++) {
-        row->library = least(row->library, stream(resampler_feed, row->kernel, word, row->block, output));
-        row->plain = least(row->plain, stream(plain_host_feed, row->kernel, word, row->block, other));
+    for (int k = 0; k < runs; k++) {
+        double run[MAKERS];
+        for (size_t i = 0; i < MAKERS; i++)
+            run[i] = stream(&makers[i], row->kernel, word, row->block, outputs[i]);
+        add_run(&row->times, run);
     }
-    if (memcmp(output, other, OUTPUT_BYTES) != 0)
-        fail("the outputs differ");
+    compare_outputs();
 }
 
 /* The time of one call with no input and no space. */
-static double empty(feed_function *feed)
+static double empty(const struct maker *maker)
 {
     uint8_t image[IMAGE];
-    start(image, RESAMPLER_CUBIC, RESAMPLER_WORD_ONE);
+    feed_function *feed = maker->feed;
+    start(maker, image, RESAMPLER_CUBIC, RESAMPLER_WORD_ONE);
     double began = now();
     for (int i = 0; i < CALLS; i++)
-        if (feed(image, IMAGE, input, 0, output, 0) != RESAMPLER_ACCEPTED)
+        if (feed(image, IMAGE, input, 0, outputs[0], 0) != RESAMPLER_ACCEPTED)
             fail("feed refused");
     return (now() - began) / CALLS;
+}
+
+static void time_empty(struct times *times, int runs)
+{
+    for (int k = 0; k < runs; k++) {
+        double run[MAKERS];
+        for (size_t i = 0; i < MAKERS; i++)
+            run[i] = empty(&makers[i]);
+        add_run(times, run);
+    }
+}
+
+/* The end of a line of the table. */
+static void print_times(struct times *times, double made)
+{
+    const double *best = times->best;
+    if (MAKERS > BEFORE)
+        printf("%-8.2f %-6.2f %.2f\n", best[NEW] / made, median(times, PLAIN), median(times, MAKERS - 1));
+    else
+        printf("%-8.2f %-8.2f %.2f\n", best[NEW] / made, best[PLAIN] / made, best[NEW] / best[PLAIN]);
 }
 
 int main(int argc, char **argv)
 {
     static const size_t blocks[] = {64, 16384};
     static const double ratios[] = {0.5, 0.9, 1.1, 3.7};
-    struct row rows[ROWS];
-    double library = 1e18, plain = 1e18;
-    for (size_t i = 0; i < ROWS; i++)
-        rows[i] = (struct row){(uint32_t)(i / 8), blocks[i / 4 % 2], ratios[i % 4], 0, 1e18, 1e18};
-    fill(argc > 1 && strcmp(argv[1], "loud") == 0);
-    for (int round = 0; round < ROUNDS; round++) {
-        for (size_t i = 0; i < ROWS; i++)
-            time_row(&rows[i]);
-        for (int run = 0; run < RUNS; run++) {
-            library = least(library, empty(resampler_feed));
-            plain = least(plain, empty(plain_host_feed));
-        }
+    static struct row rows[ROWS];
+    static struct times calls;
+    int rounds = ROUNDS, runs = RUNS;
+    if (argc > 2 && strcmp(argv[1], "--count") == 0) {
+        dumps = argv[2];
+        samples = COUNTED_SAMPLES;
+        rounds = runs = 1;
+        argc -= 2;
+        argv += 2;
     }
-    printf("kernel  block  word/2^32  library  plain C  ratio\n");
-    for (const struct row *row = rows; row < rows + ROWS; row++) {
-        double made = (double)row->made;
-        printf("%-7u %-6zu %-10.1f %-8.2f %-8.2f %.2f\n", (unsigned)row->kernel, row->block, row->ratio,
-               row->library / made, row->plain / made, row->library / row->plain);
+    int loud = argc > 1 && strcmp(argv[1], "loud") == 0, half = argc > 1 && strcmp(argv[1], "half") == 0;
+    size_t words = half ? 1 : 4, count = 4 * 2 * words; /* kernels, blocks, words */
+    for (size_t i = 0; i < count; i++) {
+        rows[i].kernel = (uint32_t)(i / words / 2);
+        rows[i].block = blocks[i / words % 2];
+        rows[i].ratio = ratios[i % words];
     }
-    printf("an empty call             %-8.2f %-8.2f %.2f\n", library, plain, library / plain);
+    fill(loud, half);
+    for (int round = 0; round < rounds; round++) {
+        for (size_t i = 0; i < count; i++)
+            time_row(&rows[i], runs);
+        time_empty(&calls, runs);
+    }
+    printf("kernel  block  word/2^32  %s\n", MAKERS > BEFORE ? "new      new/C  new/old" : "library  plain C  ratio");
+    for (struct row *row = rows; row < rows + count; row++) {
+        printf("%-7u %-6zu %-10.1f ", (unsigned)row->kernel, row->block, row->ratio);
+        print_times(&row->times, (double)row->made);
+    }
+    printf("an empty call             ");
+    print_times(&calls, 1);
     return 0;
 }

@@ -1,4 +1,5 @@
 #include "plain.h"
+#include "resampler.h"
 
 #include <string.h>
 
@@ -199,21 +200,24 @@ uint32_t plain_host_feed(uint8_t *image, size_t image_length, const uint8_t *inp
                          uint8_t *output, size_t output_length)
 {
     uint64_t word;
-    if (image_length != 40 || image[0] > 3 || image[1] > 4 || image[2] != 0 || image[3] != 0)
-        return 5;
-    memcpy(&word, image + 8, sizeof word);
-    if (word < 1 || word > (uint64_t)1 << 34)
-        return 5;
-    if (input_length % 2 != 0 || input_length > 65536 || output_length % 2 != 0 || output_length > 65536)
-        return 12;
-    struct plain_state s = {.kernel = image[0], .needed = image[1], .word = word};
-    memcpy(&s.reg, image + 4, sizeof s.reg);
-    memcpy(s.window, image + 16, sizeof s.window);
+    if (image_length != RESAMPLER_IMAGE_BYTES || image[RESAMPLER_AT_KERNEL] > RESAMPLER_CUBIC ||
+        image[RESAMPLER_AT_NEEDED] > RESAMPLER_WINDOW || image[RESAMPLER_AT_ZEROS] != 0 ||
+        image[RESAMPLER_AT_ZEROS + 1] != 0)
+        return RESAMPLER_BAD_IMAGE;
+    memcpy(&word, image + RESAMPLER_AT_WORD, sizeof word);
+    if (word < 1 || word > RESAMPLER_LARGEST_WORD)
+        return RESAMPLER_BAD_IMAGE;
+    if (input_length % RESAMPLER_SAMPLE_BYTES != 0 || input_length > RESAMPLER_LARGEST_BUFFER ||
+        output_length % RESAMPLER_SAMPLE_BYTES != 0 || output_length > RESAMPLER_LARGEST_BUFFER)
+        return RESAMPLER_BAD_BUFFER;
+    struct plain_state s = {.kernel = image[RESAMPLER_AT_KERNEL], .needed = image[RESAMPLER_AT_NEEDED], .word = word};
+    memcpy(&s.reg, image + RESAMPLER_AT_REGISTER, sizeof s.reg);
+    memcpy(s.window, image + RESAMPLER_AT_WINDOW, sizeof s.window);
     struct plain_fed fed = feed(&s, input, input_length / 2, output, output_length / 2);
     uint32_t counts[4] = {(uint32_t)fed.taken, (uint32_t)fed.written, (uint32_t)fed.clips, (uint32_t)fed.full};
-    image[1] = (uint8_t)s.needed;
-    memcpy(image + 4, &s.reg, sizeof s.reg);
-    memcpy(image + 16, s.window, sizeof s.window);
-    memcpy(image + 24, counts, sizeof counts);
-    return 0;
+    image[RESAMPLER_AT_NEEDED] = (uint8_t)s.needed;
+    memcpy(image + RESAMPLER_AT_REGISTER, &s.reg, sizeof s.reg);
+    memcpy(image + RESAMPLER_AT_WINDOW, s.window, sizeof s.window);
+    memcpy(image + RESAMPLER_AT_TAKEN, counts, sizeof counts);
+    return RESAMPLER_ACCEPTED;
 }

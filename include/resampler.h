@@ -133,8 +133,9 @@ uint32_t resampler_retune_rates(uint8_t *image, size_t image_length, uint32_t fi
    the space is all written and another output is due: the host calls again with new space, and with the input that
    was not taken, which may be none.
 
-   In a run from a start, n samples give at most n times 2^32 / word outputs, rounded up, after a start or HUNGRY, and
-   at most (n + 1) times 2^32 / word, rounded up, after FULL.
+   Where a sample is needed, as after a start or HUNGRY, a feed of n samples writes at most n times 2^32 / word outputs,
+   rounded up. Where none is needed, as after FULL, it writes at most (n + 1) times 2^32 / word, rounded up: the output
+   that is due is among them. With space for so many it ends HUNGRY.
 
    Refusals, in this order: 5, for any of its reasons; 12, if the length of the input or of the output is odd or
    above 65,536. Both may be 0. */

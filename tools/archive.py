@@ -8,6 +8,7 @@ from struct import pack, unpack
 ROOT = Path(__file__).resolve().parent.parent
 ARCHIVE = ROOT / "target/staticlib/libresampler.a"
 ONE = 2**32
+IMAGE = 40                 # bytes of an image
 LARGEST = 65536 // 2       # samples in a buffer of one feed
 HUNGRY, FULL = 0, 1
 
@@ -29,11 +30,11 @@ def linked():
 class Converter:
     """One image of the library, which every call has to accept."""
     def __init__(self, calls, kernel, word, phase=0):
-        self.calls, self.image = calls, ctypes.create_string_buffer(40)
+        self.calls, self.image = calls, ctypes.create_string_buffer(IMAGE)
         self.call("start_word", kernel, word, phase)
 
     def call(self, name, *arguments):
-        refusal = getattr(self.calls, "resampler_" + name)(self.image, 40, *arguments)
+        refusal = getattr(self.calls, "resampler_" + name)(self.image, IMAGE, *arguments)
         if refusal:
             raise RuntimeError(f"{name}: refusal {refusal}")
         (_, self.needed, self.register, self.word, _, self.taken, self.written, self.clips,

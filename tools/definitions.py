@@ -1,11 +1,15 @@
-# What tools/listing prints: the definitions in reading order, the types that they speak of, and the contracts of the exported functions.
+# What tools/listing prints: the promises, the definitions in reading order, the types that they speak of, and the contracts of the exported functions.
 import re
 import textwrap
 
 from gate import crates, fail, folder, read
 
+# The file that comes first, whatever crate it stands in: what is promised over the definitions.
+FIRST = ("promises", "Promises")
+# The crates whose functions are for those above them only. Their contracts are not listed: what comes of them is in the contracts above.
+INSIDE = ["bytes", "pass", "host"]
 # Files that only inner functions cite: by name, with the crate before it where another file has that name too.
-LEFT_OUT = ["Scale", "Pass", "Front", "Block", "resampler/Feeding"]
+LEFT_OUT = ["Scale", "Pass", "Front", "Block", "ByteFeeding"]
 # Crates whose specs/ hold laws, and the definitions among these.
 PICKED = {"integers": ["floorDiv", "roundDiv", "Within", "minZ", "maxZ", "signed", "bits"]}
 EXPORTED = re.compile(r'pub (extern "C" fn|fn|struct|enum) (\w+)')
@@ -78,10 +82,13 @@ def declared(crate, pattern, end, file="**/*"):
 
 
 def declared_type(crate, name, file="**/*"):
-    return declared(crate, rf"pub (struct|enum) {name}\b", "}", file)
+    block, path = declared(crate, rf"(pub )?(struct|enum) {name}\b", "}", file)
+    if block:
+        block.name = name
+    return block, path
 
 
-# The contracts of the functions that src/lib.rt exports, and of the methods of the types that it exports, with their files.
+# The contracts of the functions that src/lib.rt exports, and of the methods of the types that it exports, with their files. An exported constant has none.
 def exported(crate):
     path = folder(crate) / "src" / "lib.rt"
     result = []
@@ -96,9 +103,11 @@ def exported(crate):
         if found:
             result.append((found, source))
             continue
+        if of and re.search(rf"^pub const {name}\b", read(folder(crate) / "src" / f"{file}.rt"), re.M):
+            continue
         kind, source = declared_type(crate, name, file)
         if not kind:
-            fail(f"{crate}/src/lib.rt exports {name}, which is no function or type of src/{file}.rt")
+            fail(f"{crate}/src/lib.rt exports {name}, which is no function, type or constant of src/{file}.rt")
         for body in re.findall(rf"^impl {name} \{{(.*?)^\}}", read(source), re.M | re.S):
             for method in re.findall(r"^    pub fn (\w+)", body, re.M):
                 result.append(declared(crate, rf"    pub fn {method}\b", "{", source.stem))
@@ -111,7 +120,7 @@ def exported(crate):
 
 # Why a use cannot stand, if what it cites is not listed.
 def missing(crate, use, listed, types, within=None):
-    found = re.match(r"Rattle·(\w+)(?:·specs)?\.(?:specs\.)+(?:declared\.\w+\.(\w+)|(\w+))(?:.*\.\{(.*)\})?", use)
+    found = re.match(r"Rattle·(\w+)(?:·specs)?\.(?:specs\.)+(?:declared\.(?:[a-z]\w*\.)?([A-Z]\w*)|(\w+))(?:.*\.\{(.*)\})?", use)
     if not found:
         return None
     of, kind, file, names = found[1], found[2], found[3], [n.split(" as ")[0].strip() for n in (found[4] or "").split(",")]
@@ -126,7 +135,7 @@ def missing(crate, use, listed, types, within=None):
 
 
 def chapters():
-    defined, promised, out = {}, {c: exported(c) for c in crates()}, []
+    defined, promised, out = {}, {c: [] if c in INSIDE else exported(c) for c in crates()}, []
     for c in crates():
         defined[c], names = specs(c) if (folder(c) / "specs" / "Lib.antt").is_file() else ([], [])
         out += [(c, n) for n in names]
@@ -153,5 +162,10 @@ def chapters():
         sections += [Section(c, "contracts", [", ".join(f"`{b.name}`" for b, _ in promised[c])], [b for b, _ in promised[c]])] if promised[c] else []
         if sections:
             root = next(p for p in (folder(c) / "src" / n for n in ("lib.rt", "main.rt")) if p.is_file())
-            result.append((c, sentence(comment(read(root).splitlines(), "//")[0]), sections))
+            says = sentence(comment(read(root).splitlines(), "//")[0])
+            top = [s for s in sections if (c, s.title) == (FIRST[0], f"specs/{FIRST[1]}.antt")]
+            result[:0] = [(c, says, top)] if top else []
+            result.append((c, says, [s for s in sections if s not in top]))
+    if result[0][0] != FIRST[0]:
+        fail(f"{FIRST[0]}/specs/{FIRST[1]}.antt, which comes first, is not there")
     return result, out

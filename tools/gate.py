@@ -37,7 +37,7 @@ def log(crate):
 # A wrong program: the text at its head, and its replacements, each a file with what stands there and what is put there.
 class Edit:
     def __init__(self, crate, path):
-        self.crate, self.name = crate, path.stem
+        self.crate, self.name, self.path = crate, path.stem, path
         self.says, self.pairs = [], []
         file = old = ""
         for line in read(path).splitlines():
@@ -55,9 +55,16 @@ class Edit:
     def copy(self):
         return TARGET / "must-fail" / self.crate / self.name
 
+    # None where the prover has not come to an end.
     def log(self):
         path = self.copy() / ".log"
-        return read(path) if path.is_file() else None
+        text = read(path) if path.is_file() else ""
+        return text if "\nlogic=" in text else None
+
+    # Whether there is a log of the edit as it is now.
+    def tried(self):
+        log = self.copy() / ".log"
+        return log.is_file() and log.stat().st_mtime >= self.path.stat().st_mtime
 
     def seconds(self):
         path = TARGET / "must-fail" / self.crate / f"{self.name}.out"

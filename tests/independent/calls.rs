@@ -70,7 +70,9 @@ fn parts(bytes: &[u8]) -> Vec<String> {
         return vec!["-".to_string()];
     }
     if bytes.len() == image::LENGTH {
-        let places = [0, 1, 2, 4, 8, 16, 24, 28, 32, 36, 40];
+        let fields = [image::KERNEL, image::NEEDED, image::ZEROS, image::REGISTER, image::WORD];
+        let counts = [0, 4, 8, 12, 16].map(|place| image::COUNTS + place);
+        let places = [&fields[..], &[image::WINDOW], &counts].concat();
         return places.windows(2).map(|pair| digits(&bytes[pair[0]..pair[1]])).collect();
     }
     let (mut parts, mut place, mut plain) = (Vec::new(), 0, 0);

@@ -198,7 +198,7 @@ pub fn wild_image(random: &mut Random) -> Vec<u8> {
         0 => vec![0xff; 16],
         _ => random.bytes(16),
     };
-    image[24..].copy_from_slice(&counts);
+    image[image::COUNTS..].copy_from_slice(&counts);
     image
 }
 
@@ -208,13 +208,13 @@ pub fn damaged_image(random: &mut Random, good: &[u8]) -> Vec<u8> {
     image.resize(image::LENGTH, 0);
     for _ in 0..=random.magnitude(1) + random.magnitude(1) {
         match random.below(6) {
-            0 => image[2 + random.below(2) as usize] = 1 + random.below(255) as u8,
-            1 => image[0] = 4 + random.below(252) as u8,
-            2 => image[1] = 5 + random.below(251) as u8,
-            3 => image[8..16].fill(0),
+            0 => image[image::ZEROS + random.below(2) as usize] = 1 + random.below(255) as u8,
+            1 => image[image::KERNEL] = 4 + random.below(252) as u8,
+            2 => image[image::NEEDED] = 5 + random.below(251) as u8,
+            3 => image[image::WORD..image::WINDOW].fill(0),
             4 => {
                 let word = random.pick(&[LARGEST_WORD + 1, 1 << 63, u64::MAX, 1 << 35]);
-                image[8..16].copy_from_slice(&word.to_le_bytes());
+                image[image::WORD..image::WINDOW].copy_from_slice(&word.to_le_bytes());
             }
             _ => return wrong_length(random, image),
         }
@@ -226,11 +226,11 @@ pub fn damaged_image(random: &mut Random, good: &[u8]) -> Vec<u8> {
 pub fn wrong_length(random: &mut Random, mut image: Vec<u8>) -> Vec<u8> {
     let length = match random.below(4) {
         0 => 0,
-        1 => 39,
-        2 => 41,
-        _ => random.below(100),
+        1 => image::LENGTH - 1,
+        2 => image::LENGTH + 1,
+        _ => random.below(100) as usize,
     };
-    let right = length == image::LENGTH as u64;
-    image.resize(if right { 80 } else { length as usize }, 0);
+    let right = length == image::LENGTH;
+    image.resize(if right { 2 * image::LENGTH } else { length }, 0);
     image
 }

@@ -3,21 +3,27 @@
 use crate::state::{self, End, Fed, State};
 
 pub const LENGTH: usize = 40;
-/// Where the eight bytes of the word begin.
+/// Where the parts begin; the counts are taken, written, clips and end.
+pub const KERNEL: usize = 0;
+pub const NEEDED: usize = 1;
+pub const ZEROS: usize = 2;
+pub const REGISTER: usize = 4;
 pub const WORD: usize = 8;
+pub const WINDOW: usize = 16;
+pub const COUNTS: usize = 24;
 
 /// The state in an image, or refusal 5: "image not 40 bytes or bytes 2, 3 not zero", or a state
 /// that is refused. Taken, written, clips and end are "anything on entry".
 pub fn decode(image: &[u8]) -> Result<State, u32> {
-    if image.len() != LENGTH || image[2] != 0 || image[3] != 0 {
+    if image.len() != LENGTH || image[ZEROS] != 0 || image[ZEROS + 1] != 0 {
         return Err(5);
     }
     let state = State {
-        kernel: image[0],
-        needed: image[1],
-        register: little(&image[4..8]) as u32,
+        kernel: image[KERNEL],
+        needed: image[NEEDED],
+        register: little(&image[REGISTER..WORD]) as u32,
         word: word(image),
-        window: [16, 18, 20, 22].map(|place| little(&image[place..place + 2]) as u16 as i16),
+        window: [0, 2, 4, 6].map(|place| little(&image[WINDOW + place..][..2]) as u16 as i16),
     };
     state::check(&state)?;
     Ok(state)
@@ -48,14 +54,14 @@ pub fn encode_fresh(state: State) -> Vec<u8> {
     encode(&Fed { state, taken: 0, written: 0, clips: 0, end: End::Hungry })
 }
 
-/// The word of an image of 40 bytes.
+/// The word of an image of the right length.
 pub fn word(image: &[u8]) -> u64 {
-    little(&image[WORD..16])
+    little(&image[WORD..WINDOW])
 }
 
-/// Taken, written, clips and end of an image of 40 bytes.
+/// Taken, written, clips and end of an image of the right length.
 pub fn counts(image: &[u8]) -> [u32; 4] {
-    [24, 28, 32, 36].map(|place| little(&image[place..place + 4]) as u32)
+    [0, 4, 8, 12].map(|place| little(&image[COUNTS + place..][..4]) as u32)
 }
 
 fn little(bytes: &[u8]) -> u64 {

@@ -34,7 +34,7 @@ impl Tally {
         self.calls[host::kind(&call.request)][answer.result as usize] += 1;
         if answer.result == 0 && matches!(call.request, Request::Feed) {
             let [taken, written, clips, end] = image::counts(&answer.image);
-            let kernel = &mut self.kernels[answer.image[0] as usize];
+            let kernel = &mut self.kernels[answer.image[image::KERNEL] as usize];
             // A feed leaves the word as it is: it was in force for all that the feed wrote.
             match image::word(&answer.image) {
                 1 => kernel.at_smallest += written as u64,

@@ -2,9 +2,10 @@
 // state, count, end, refusal and output place in order, and totals. The file `stdout` holds what an independent model of document 01 prints. Each function is proved free of
 // overflow and of access out of bounds.
 ghost use Prim.Native.Nat.{_≤_, _<_};
+use converter_spec::Counts;
 use converter_spec::End;
 use converter_spec::Fed;
-use converter_spec::State;
+use converter_state::State;
 use libc::STDOUT_FILENO;
 use oscillator_spec::Setting;
 
@@ -262,22 +263,19 @@ fn end_of(end: End) -> u64 {
 }
 
 // The tally with a feed's counts and end, and the whole buffer that its output places are the first of.
-fn counted(
-    tally: Tally,
-    taken: usize,
-    written: usize,
-    clips: usize,
-    end: End,
-    buffer: &[i16],
-) -> Tally {
-    let mut hash = mix(tally.hash, taken as u64);
-    hash = mix(hash, written as u64);
-    hash = mix(hash, clips as u64);
+fn counted(tally: Tally, counts: Counts, buffer: &[i16]) -> Tally {
+    let taken = counts.taken as u64;
+    let written = counts.written as u64;
+    let clips = kernels::total_clips(counts.clips) as u64;
+    let end = counts.end;
+    let mut hash = mix(tally.hash, taken);
+    hash = mix(hash, written);
+    hash = mix(hash, clips);
     hash = mix(hash, end_of(end));
     hash = mix_samples(hash, buffer);
-    let all_taken = sum(tally.taken, taken as u64);
-    let all_written = sum(tally.written, written as u64);
-    let all_clips = sum(tally.clips, clips as u64);
+    let all_taken = sum(tally.taken, taken);
+    let all_written = sum(tally.written, written);
+    let all_clips = sum(tally.clips, clips);
     Tally {
         hash: hash,
         taken: all_taken,
@@ -310,10 +308,33 @@ fn length(seed: &mut u64) -> usize
 }
 
 // Feeds the first samples of the input into the first places of the output.
-fn feed_part(state: State, input: &[i16], samples: usize, output: &mut [i16], space: usize) -> Fed
+fn feed_whole(state: State, input: &[i16], samples: usize, output: &mut [i16], space: usize) -> Fed
     requires { do ⌜ (samples ≤ (← ⟦input.len()⟧)) × (space ≤ (← ⟦output.len()⟧)) ⌝ }
 {
     converter::feed(state, &input[..samples], &mut output[..space])
+}
+
+// The same, with the samples lent as two halves.
+fn feed_halves(state: State, input: &[i16], samples: usize, output: &mut [i16], space: usize) -> Fed
+    requires { do ⌜ (samples ≤ (← ⟦input.len()⟧)) × (space ≤ (← ⟦output.len()⟧)) ⌝ }
+{
+    let half = samples / 2;
+    converter::feed_parts(
+        state,
+        &input[..half],
+        &input[half..samples],
+        &mut output[..space],
+    )
+}
+
+// Feeds in one of the two ways: halves where the number of places is odd.
+fn feed_part(state: State, input: &[i16], samples: usize, output: &mut [i16], space: usize) -> Fed
+    requires { do ⌜ (samples ≤ (← ⟦input.len()⟧)) × (space ≤ (← ⟦output.len()⟧)) ⌝ }
+{
+    if space % 2 == 0 {
+        return feed_whole(state, input, samples, output, space);
+    }
+    feed_halves(state, input, samples, output, space)
 }
 
 fn fed(seed: &mut u64, run: Run) -> Run {
@@ -325,16 +346,9 @@ fn fed(seed: &mut u64, run: Run) -> Run {
     fill(seed, &mut output);
     let answer = feed_part(run.state, &input, samples, &mut output, space);
     let after = answer.state;
-    let end = answer.end;
+    let counts = answer.counts;
     let tally = answered(run.tally, after, answer.refusal);
-    let whole = counted(
-        tally,
-        answer.taken,
-        answer.written,
-        answer.clips,
-        end,
-        &output,
-    );
+    let whole = counted(tally, counts, &output);
     Run {
         state: after,
         tally: whole,
@@ -345,7 +359,7 @@ fn fed(seed: &mut u64, run: Run) -> Run {
 fn started(seed: &mut u64, kernel: u8, tally: Tally) -> Run {
     let drawn = setting(seed);
     let position = phase(seed);
-    let answer = converter_spec::start(kernel, drawn, position);
+    let answer = converter_state::start(kernel, drawn, position);
     let state = answer.state;
     let counts = answered(tally, state, answer.refusal);
     Run {

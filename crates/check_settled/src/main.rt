@@ -1,7 +1,7 @@
 // Runs the settled examples of document 01 that are not starred, those on ratios and the one on empty buffers, then settings at the edges of the rules, and both calls of the readers
-// of lines, and prints what it finds, a line for each. The file `stdout` has what document 01 says. The starred examples are one theorem, of the crate `starred`.
+// of lines, and prints what it finds, a line for each. The file `stdout` has what document 01 says. The starred examples are one theorem, of the crate `promises`.
 use converter_spec::End;
-use converter_spec::State;
+use converter_state::State;
 use libc::STDOUT_FILENO;
 use oscillator_spec::Setting;
 use oscillator_spec::WordAnswer;
@@ -37,7 +37,8 @@ fn show_empty(description: &[u8], state: State) {
     let input = [0i16; 1];
     let mut output = [0i16; 1];
     let f = converter::feed(state, &input[..0], &mut output[..0]);
-    let end = f.end;
+    let counts = f.counts;
+    let end = counts.end;
     match end {
         End::Hungry => {
             io::write_all(STDOUT_FILENO, b": HUNGRY\n");
@@ -50,7 +51,7 @@ fn show_empty(description: &[u8], state: State) {
 
 // From a fresh start two samples are needed, and after two none is.
 fn settled_empty() {
-    let s = converter_spec::start(0, Setting::Word(4294967296), 0).state;
+    let s = converter_state::start(0, Setting::Word(4294967296), 0).state;
     show_empty(b"empty buffers, two samples needed", s);
     let input = [5i16; 2];
     let mut output = [0i16; 1];

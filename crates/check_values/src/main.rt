@@ -2,6 +2,7 @@
 // and clips in order, and how many clips. The file `stdout` holds what an independent model of document 01 prints. Each function is proved free of overflow and of access
 // out of bounds.
 ghost use Prim.Native.Nat.{_≤_};
+use kernels_spec::Clips;
 use libc::STDOUT_FILENO;
 
 // A register, a window, oldest sample first, and the generator's state after both are drawn.
@@ -102,17 +103,19 @@ fn edge_case(i: u64) -> Case {
     }
 }
 
-fn flag(clip: bool) -> u64
+// An output's clips, of which there is one at the most.
+fn clip_of(clips: Clips) -> u64
     ensures { λ r. ⌜ r ≤ 1 ⌝ }
 {
-    if clip { 1 } else { 0 }
+    if kernels::is_none(clips) { 0 } else { 1 }
 }
 
 // The tally with the kernel's output over one more window. Both numbers stay below 2^31, so the first remainders change nothing.
 fn add(tally: Tally, kernel: u8, register: u32, window: [i16; 4]) -> Tally {
     let output = kernels::evaluate(kernel, register, window);
     let value = integers::bits(output.value) as u64;
-    let clip = flag(output.clip);
+    let clips = output.clips;
+    let clip = clip_of(clips);
     Tally {
         hash: (tally.hash % 0x8000_0000 * 65599 + value * 2 + clip) % 0x8000_0000,
         clips: tally.clips % 0x8000_0000 + clip,

@@ -1,19 +1,25 @@
 // Block feeding: one pass over the window and the first samples of the input, and one over the input itself.
-use crate::pass::Progress;
-use crate::pass::pass_by;
-use crate::pass::window_at;
+use crate::samples::pass_by;
+use crate::samples::window_at;
+use converter_spec::Counts;
 use converter_spec::End;
 use converter_spec::Fed;
-use converter_spec::State;
-use converter_spec::is_state;
+use converter_state::State;
+use converter_state::is_state;
+use kernels::no_clips;
+use kernels_spec::Clips;
+use pass::finish;
+use pass::kept_place;
+use pass_spec::Progress;
 ghost use mathlib.Core.Path.{_≡_};
 ghost use mathlib.Core.Bool.{true};
 ghost use Prim.Native.Nat.{_+_, _^_, _≤_, _<_};
 ghost use lib.IntN.{pos};
 ghost use lib.ListN.{length, getD};
-ghost use Rattle.converter_spec.specs.Start.{isState};
-ghost use Rattle.converter_spec.specs.Feeding.{answerOf, FedRight};
-ghost use Rattle.converter.specs.Pass.{headOf, joinedOf, finishing};
+ghost use Rattle.kernels_spec.specs.Clips.{total};
+ghost use Rattle.converter_state.specs.Start.{isState};
+ghost use Rattle.converter_spec.specs.Feeding.{FedRight};
+ghost use Rattle.pass_spec.specs.Pass.{headOf, joinedOf, finishing};
 
 // A sample, or zero past the last.
 fn or_zero(samples: &[i16], i: usize) -> i16
@@ -46,35 +52,21 @@ fn head(input: &[i16]) -> usize
     4
 }
 
-// What a feed answers whose last pass over `samples` got as far as p, with `taken`, `written` and `clips` before it. The window that is kept is that of the output which is due,
-// or the last one where samples are still needed.
-fn finish(s: State, samples: &[i16], p: Progress, taken: usize, written: usize, clips: usize) -> Fed
-    requires { ⌜ (4 ≤ length (now samples)) × (p .at ≤ length (now samples)) × (taken ≤ 4) × (written + p .written < 2 ^ 63) × (clips + p .clips < 2 ^ 63) ⌝ }
-    ensures { λ f. ⌜ answerOf f ≡ finishing s (now (samples .entry)) p taken written clips ⌝ }
+// What a feed answers whose last pass over `samples` got as far as p, with `taken`, `written` and `clips` before it.
+fn finish_over(
+    s: State,
+    samples: &[i16],
+    p: Progress,
+    taken: usize,
+    written: usize,
+    clips: Clips,
+) -> Fed
+    requires { ⌜ (4 ≤ length (now samples)) × (p .at ≤ length (now samples)) × (taken ≤ 4) × (written + p .written < 2 ^ 63) × (total clips + total (p .clips) < 2 ^ 63) ⌝ }
+    ensures { λ f. ⌜ f ≡ finishing s (now (samples .entry)) p taken written clips ⌝ }
 {
-    let last = samples.len() - 4;
-    let at = p.at;
-    let mut place = last;
-    let mut end = End::Hungry;
-    if at <= last {
-        place = at;
-        end = End::Full;
-    }
+    let place = kept_place(samples.len() - 4, p.at);
     let window = window_at(samples, place);
-    let state = State {
-        register: p.register,
-        needed: (at - place) as u8,
-        window: window,
-        ..s
-    };
-    Fed {
-        state: state,
-        taken: taken + place,
-        written: written + p.written,
-        clips: clips + p.clips,
-        end: end,
-        refusal: 0,
-    }
+    finish(s, p, place, window, taken, written, clips)
 }
 
 // Feeds a state that is not refused: a pass over its window and the first samples, and where samples are still needed one over the input.
@@ -88,7 +80,8 @@ fn feed_accepted(s: State, input: &[i16], output: &mut [i16]) -> Fed
     let first = pass_by(s.kernel, s.word, s.register, s.needed, &joined[..n], output);
     let written = first.written;
     if first.at + 4 <= n || input.len() < 4 {
-        return finish(s, &joined[..n], first, 0, 0, 0);
+        let none = no_clips();
+        return finish_over(s, &joined[..n], first, 0, 0, none);
     }
     let second = pass_by(
         s.kernel,
@@ -98,7 +91,7 @@ fn feed_accepted(s: State, input: &[i16], output: &mut [i16]) -> Fed
         input,
         &mut output[written..],
     );
-    finish(s, input, second, 4, written, first.clips)
+    finish_over(s, input, second, 4, written, first.clips)
 }
 
 // Feeds by document 01's rule: it ends `Hungry` when a sample is needed and the input is spent, and `Full` when an output is due and the space is all written.
@@ -106,12 +99,16 @@ pub fn feed(state: State, input: &[i16], output: &mut [i16]) -> Fed
     ensures { λ r. ⌜ FedRight state (now (input .entry)) (now (output .entry)) r (now (output .exit)) ⌝ }
 {
     if !is_state(state) {
-        return Fed {
-            state: state,
+        let none = no_clips();
+        let counts = Counts {
             taken: 0,
             written: 0,
-            clips: 0,
+            clips: none,
             end: End::Hungry,
+        };
+        return Fed {
+            state: state,
+            counts: counts,
             refusal: 5,
         };
     }

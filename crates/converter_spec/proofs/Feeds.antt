@@ -5,19 +5,22 @@ use mathlib.Core.Bool.{Bool, true, false, cond}
 use mathlib.Core.List.{List, [], _∷_, _++_, append-assoc, append-nil}
 use Prim.Native.Nat.{ℕ, suc, _+_, _-_, _^_, _≤_, _<_}
 use native.Mathlib.Omega.{arith}
-use native.Mathlib.Nat.{zero-add, add-zero, add-assoc}
+use native.Mathlib.Nat.{zero-add}
 use borrow.Author.Tests.{eq-eqb, ne-eqb}
 use lib.Dec.{eqb}
 use lib.IntN.{ℤ}
 use lib.ListN.{length, drop, length-append}
 use lib.Seq.{length-front, drop-append-seam, length-take-le}
-use Rattle.converter_spec.specs.declared.state.State.{State}
+use Rattle.converter_state.specs.declared.state.State.{State}
 use Rattle.converter_spec.specs.declared.feeding.Fed.{Fed}
-use Rattle.converter_spec.specs.Start.{isState}
-use Rattle.converter_spec.specs.Feeding.{HUNGRY, FULL, Ran, rule, Answer, answerOf, accepted, fedOf, outputsOf, over, FedRight}
-use Rattle.converter_spec.proofs.States.{Sound, state-is}
-use Rattle.converter_spec.proofs.Turns.{rule-full, rule-hungry, by-need}
-use Rattle.converter_spec.proofs.Runs.{rule-ending, ending-sizes, rule-sound, rule-more, ran, then, nothing-then}
+use Rattle.converter_state.specs.Start.{isState}
+use Rattle.converter_spec.specs.declared.feeding.Counts.{Counts}
+use Rattle.bytes_spec.specs.Overwritten.{over}
+use Rattle.converter_spec.specs.Feeding.{HUNGRY, FULL, counts, noCounts, addCounts, Ran, ran, rule, accepted, refusedFeed, fedOf, outputsOf, FedRight}
+use Rattle.converter_state.proofs.States.{Sound, state-is}
+use Rattle.converter_spec.proofs.RuleSteps.{rule-full, rule-hungry, by-need}
+use Rattle.converter_spec.proofs.Runs.{rule-ending, ending-sizes, rule-written, rule-sound, rule-more, then, nothing-then}
+use Rattle.converter_spec.proofs.Counts.{add-none, add-counts-assoc}
 
 -- ---- by the state: accepted or refused
 pub fed-rule : (s : State) → isState s ≡ true → (xs : List ℤ) (n : ℕ) → (fedOf s xs n ≡ accepted (rule xs n s)) × (outputsOf s xs n ≡ rule xs n s .outputs)
@@ -25,24 +28,24 @@ unfolding fedOf outputsOf
 fed-rule s e xs n = (rw e, rw e)
 
 pub fed-refused : (s : State) → isState s ≡ false → (xs : List ℤ) (n : ℕ)
-    → (fedOf s xs n ≡ record { state = s; taken = 0; written = 0; clips = 0; end = 0; refusal = 5 }) × (outputsOf s xs n ≡ [])
+    → (fedOf s xs n ≡ record { state = s; counts = noCounts HUNGRY; refusal = 5 }) × (outputsOf s xs n ≡ [])
 unfolding fedOf outputsOf
 fed-refused s e xs n = (rw e, rw e)
 
 -- ---- the sizes of an answer
 sizes-by : (s : State) (xs : List ℤ) (n : ℕ) (b : Bool) → isState s ≡ b
-    → (fedOf s xs n .written ≡ length (outputsOf s xs n)) × (fedOf s xs n .taken ≤ length xs) × (length (outputsOf s xs n) ≤ n)
-sizes-by s xs n true e = let f = fed-rule s e xs n in let z = ending-sizes (rule-ending xs n s) in rw (f .0, f .1) (refl, z .0, z .1)
+    → (fedOf s xs n .counts .written ≡ length (outputsOf s xs n)) × (fedOf s xs n .counts .taken ≤ length xs) × (length (outputsOf s xs n) ≤ n)
+sizes-by s xs n true e = let f = fed-rule s e xs n in let z = ending-sizes (rule-ending xs n s) in rw (f .0, f .1) (rule-written xs n s, z .0, z .1)
 sizes-by s xs n false e = let f = fed-refused s e xs n in rw (f .0, f .1) (refl, omega arith, omega arith)
 
 pub fed-sizes : (s : State) (xs : List ℤ) (n : ℕ)
-    → (fedOf s xs n .written ≡ length (outputsOf s xs n)) × (fedOf s xs n .taken ≤ length xs) × (length (outputsOf s xs n) ≤ n)
+    → (fedOf s xs n .counts .written ≡ length (outputsOf s xs n)) × (fedOf s xs n .counts .taken ≤ length xs) × (length (outputsOf s xs n) ≤ n)
 fed-sizes s xs n = sizes-by s xs n (isState s) refl
 
 -- ---- the output buffer: its length stays, and so do the places past those written
 module _ {s : State} {input old : List ℤ} {f : Fed} {left : List ℤ} (h : FedRight s input old f left) where
-  written-is : f .written ≡ length (outputsOf s input (length old))
-  written-is = ap (λ (a : Answer). a .written) (h .answer) ∙ fed-sizes s input (length old) .0
+  written-is : f .counts .written ≡ length (outputsOf s input (length old))
+  written-is = ap (λ (a : Fed). a .counts .written) (h .answer) ∙ fed-sizes s input (length old) .0
 
   pub same-length : length left ≡ length old
   same-length =
@@ -50,17 +53,17 @@ module _ {s : State} {input old : List ℤ} {f : Fed} {left : List ℤ} (h : Fed
       let l = fed-sizes s input (length old) .2 in
       ap length (h .buffer) ∙ length-front old ys (length ys) (sym (length-take-le (length ys) old l))
 
-  pub places-kept : drop (f .written) left ≡ drop (f .written) old
+  pub places-kept : drop (f .counts .written) left ≡ drop (f .counts .written) old
   places-kept =
       let ys : List ℤ = outputsOf s input (length old) in
       (λ i. drop (written-is i) (h .buffer i)) ∙ drop-append-seam ys (drop (length ys) old) ∙ ap (λ n. drop n old) (sym written-is)
 
   -- a refused feed hands back the state, with counts 0, and leaves the buffer as it was
-  pub refused-same : isState s ≡ false → (answerOf f ≡ record { state = s; taken = 0; written = 0; clips = 0; end = 0; refusal = 5 }) × (left ≡ old)
+  pub refused-same : isState s ≡ false → (f ≡ record { state = s; counts = noCounts HUNGRY; refusal = 5 }) × (left ≡ old)
   refused-same e = let r = fed-refused s e input (length old) in (h .answer ∙ r .0, h .buffer ∙ ap (λ ys. over ys old) (r .1))
 
 -- ---- "Empty input and empty output: FULL if none is needed, else HUNGRY", and nothing else changes
-pub nothing : (s : State) → isState s ≡ true → fedOf s [] 0 ≡ record { state = s; taken = 0; written = 0; clips = 0; end = cond (eqb (s .needed) 0) FULL HUNGRY; refusal = 0 }
+pub nothing : (s : State) → isState s ≡ true → fedOf s [] 0 ≡ record { state = s; counts = noCounts (cond (eqb (s .needed) 0) FULL HUNGRY); refusal = 0 }
 nothing s e =
     fed-rule s e [] 0 .0
     ∙ by-need (s .needed)
@@ -69,44 +72,26 @@ nothing s e =
 
 -- a run over xs and ys, with space for what the run over xs wrote and m more
 whole : (xs : List ℤ) (n : ℕ) (s : State) (ys : List ℤ) (m : ℕ)
-    → let r = rule xs n s in rule (xs ++ ys) (length (r .outputs) + m) s ≡ then r (rule (drop (r .taken) xs ++ ys) m (r .state))
+    → let r = rule xs n s in rule (xs ++ ys) (length (r .outputs) + m) s ≡ then r (rule (drop (r .counts .taken) xs ++ ys) m (r .state))
 whole xs n s ys m =
     let r : Ran = rule xs n s in
-    rule-more xs n s ys (length (r .outputs) + m) (omega arith) ∙ ap (λ k. then r (rule (drop (r .taken) xs ++ ys) k (r .state))) (omega arith)
+    rule-more xs n s ys (length (r .outputs) + m) (omega arith) ∙ ap (λ k. then r (rule (drop (r .counts .taken) xs ++ ys) k (r .state))) (omega arith)
 
 -- ---- two feeds are one: the first over xs, the second over what that left and ys; the one over xs and ys, with space for what the first wrote and m more
 pub two-feeds : (s : State) → Sound s → s .register < 2 ^ 32 → (xs ys : List ℤ) (n m : ℕ)
-    → let a = fedOf s xs n in let rest = drop (a .taken) xs ++ ys in
-    (outputsOf s (xs ++ ys) (a .written + m) ≡ outputsOf s xs n ++ outputsOf (a .state) rest m)
-    × (fedOf s (xs ++ ys) (a .written + m) ≡ (let b = fedOf (a .state) rest m in record {
-      state = b .state;
-      taken = a .taken + b .taken;
-      written = a .written + b .written;
-      clips = a .clips + b .clips;
-      end = b .end;
-      refusal = 0;
-    }))
+    → let a = fedOf s xs n in let rest = drop (a .counts .taken) xs ++ ys in let b = fedOf (a .state) rest m in
+    (outputsOf s (xs ++ ys) (a .counts .written + m) ≡ outputsOf s xs n ++ outputsOf (a .state) rest m)
+    × (fedOf s (xs ++ ys) (a .counts .written + m) ≡ record { state = b .state; counts = addCounts (a .counts) (b .counts); refusal = 0 })
 two-feeds s h l xs ys n m =
     let r : Ran = rule xs n s in
-    let rest : List ℤ = drop (r .taken) xs ++ ys in
-    let z : Ran = rule rest m (r .state) in
+    let rest : List ℤ = drop (r .counts .taken) xs ++ ys in
     let e = state-is s h in
     let f = fed-rule (r .state) (state-is (r .state) (rule-sound xs n s h l .0)) rest m in
-    let g = fed-rule s e (xs ++ ys) (length (r .outputs) + m) in
-    let w = whole xs n s ys m in
+    let g = fed-rule s e (xs ++ ys) (r .counts .written + m) in
+    let w = ap (λ k. rule (xs ++ ys) (k + m) s) (rule-written xs n s) ∙ whole xs n s ys m in
     rw (fed-rule s e xs n .0, fed-rule s e xs n .1)
     (rw (f .0, f .1)
-    (rw (g .0, g .1, w) (
-      refl,
-      λ i. record {
-        state = z .state;
-        taken = r .taken + z .taken;
-        written = length-append (r .outputs) (z .outputs) i;
-        clips = r .clips + z .clips;
-        end = z .end;
-        refusal = 0;
-      },
-    )))
+    (rw (g .0, g .1, w) (refl, refl)))
 
 -- ---- a stream in pieces: a block and the space for it at each feed, which gets what the feeds before it left, and the block
 pub record Piece : Type 0 where
@@ -120,25 +105,24 @@ blocks (p ∷ ps) = p .block ++ blocks ps
 -- what the feeds came to, together: `rest` was not taken
 pub record Pieced : Type 0 where
   pub state : State
-  pub taken : ℕ
+  pub counts : Counts
   pub outputs : List ℤ
-  pub clips : ℕ
   pub rest : List ℤ
 
 -- a feed's answer and outputs, and then what the feeds after it came to
-abbrev pub afterFeed : Answer → List ℤ → Pieced → Pieced
-afterFeed a ys z = record { state = z .state; taken = a .taken + z .taken; outputs = ys ++ z .outputs; clips = a .clips + z .clips; rest = z .rest }
+abbrev pub afterFeed : Fed → List ℤ → Pieced → Pieced
+afterFeed a ys z = record { state = z .state; counts = addCounts (a .counts) (z .counts); outputs = ys ++ z .outputs; rest = z .rest }
 
 abbrev pub pieces : List ℤ → List Piece → State → Pieced
-pieces rest [] s = record { state = s; taken = 0; outputs = []; clips = 0; rest = rest }
+pieces rest [] s = record { state = s; counts = noCounts HUNGRY; outputs = []; rest = rest }
 pieces rest (p ∷ ps) s =
     let xs = rest ++ p .block in
     let a = fedOf s xs (p .space) in
-    afterFeed a (outputsOf s xs (p .space)) (pieces (drop (a .taken) xs) ps (a .state))
+    afterFeed a (outputsOf s xs (p .space)) (pieces (drop (a .counts .taken) xs) ps (a .state))
 
 -- the same as a run, which another follows
 abbrev pub goesOn : Pieced → Ran → Ran
-goesOn z r = ran (r .state) (z .taken + r .taken) (z .outputs ++ r .outputs) (z .clips + r .clips) (r .end)
+goesOn z r = ran (r .state) (addCounts (z .counts) (r .counts)) (z .outputs ++ r .outputs)
 
 -- However it is cut and whatever the spaces are: one feed of it all, with space for what the pieces gave and m more, is what the pieces gave and then a feed of what they left.
 pub in-pieces : (rest : List ℤ) (ps : List Piece) (s : State) → Sound s → s .register < 2 ^ 32 → (m : ℕ)
@@ -149,45 +133,49 @@ in-pieces rest (p ∷ ps) s h l m =
     let xs : List ℤ = rest ++ p .block in
     let r : Ran = rule xs (p .space) s in
     let g = rule-sound xs (p .space) s h l in
-    let z : Pieced = pieces (drop (r .taken) xs) ps (r .state) in
+    let z : Pieced = pieces (drop (r .counts .taken) xs) ps (r .state) in
     let f = fed-rule s (state-is s h) xs (p .space) in
     let size : length (r .outputs ++ z .outputs) + m ≡ length (r .outputs) + (length (z .outputs) + m) = omega (arith, length-append (r .outputs) (z .outputs)) in
-    subst (λ (a : Answer). Holds xs a (outputsOf s xs (p .space))) (sym (f .0))
+    subst (λ (a : Fed). Holds xs a (outputsOf s xs (p .space))) (sym (f .0))
     (subst (Holds xs (accepted r)) (sym (f .1))
     ((λ i. rule (sym (append-assoc rest (p .block) (blocks ps)) i) (size i) s)
     ∙ whole xs (p .space) s (blocks ps) (length (z .outputs) + m)
-    ∙ ap (then r) (in-pieces (drop (r .taken) xs) ps (r .state) (g .0) (g .1) m)
+    ∙ ap (then r) (in-pieces (drop (r .counts .taken) xs) ps (r .state) (g .0) (g .1) m)
     ∙ after-both r z (rule (z .rest) m (z .state))))
   where
     -- what is to be shown of the first feed's answer and outputs
-    Holds : List ℤ → Answer → List ℤ → Type 0
+    Holds : List ℤ → Fed → List ℤ → Type 0
     Holds xs a ys =
-        let z = afterFeed a ys (pieces (drop (a .taken) xs) ps (a .state)) in
+        let z = afterFeed a ys (pieces (drop (a .counts .taken) xs) ps (a .state)) in
         rule (rest ++ (p .block ++ blocks ps)) (length (z .outputs) + m) s ≡ goesOn z (rule (z .rest) m (z .state))
 
     after-both : (r : Ran) (z : Pieced) (t : Ran) → then r (goesOn z t) ≡ goesOn (afterFeed (accepted r) (r .outputs) z) t
-    after-both r z t = λ i. ran (t .state) (sym (add-assoc (r .taken) (z .taken) (t .taken)) i) (sym (append-assoc (r .outputs) (z .outputs) (t .outputs)) i) (sym (add-assoc (r .clips) (z .clips) (t .clips)) i) (t .end)
+    after-both r z t = λ i. ran (t .state) (sym (add-counts-assoc (r .counts) (z .counts) (t .counts)) i) (sym (append-assoc (r .outputs) (z .outputs) (t .outputs)) i)
 
 -- Pieces that leave nothing, the last feed HUNGRY: one feed of it all, with space for their outputs or more, gives the same, HUNGRY.
 pub record Spent (z : Pieced) : Type 0 where
   pub taken-all : z .rest ≡ []
   pub needs : 1 ≤ z .state .needed
 
+-- their counts together, as of one feed that ends HUNGRY
+abbrev pub allHungry : Pieced → Counts
+allHungry z = counts (z .counts .taken) (z .counts .written) (z .counts .clips) HUNGRY
+
 module _ (s : State) (h : Sound s) (l : s .register < 2 ^ 32) where
   spent-run : (ps : List Piece) → Spent (pieces [] ps s) → (m : ℕ)
-      → let z = pieces [] ps s in rule (blocks ps) (length (z .outputs) + m) s ≡ ran (z .state) (z .taken) (z .outputs) (z .clips) HUNGRY
+      → let z = pieces [] ps s in rule (blocks ps) (length (z .outputs) + m) s ≡ ran (z .state) (allHungry z) (z .outputs)
   spent-run ps e m =
       let z : Pieced = pieces [] ps s in
       let k : z .state .needed ≡ suc (z .state .needed - 1) = omega (arith, e .needs) in
       in-pieces [] ps s h l m
       ∙ ap (λ xs. goesOn z (rule xs m (z .state))) (e .taken-all)
       ∙ ap (goesOn z) (rule-hungry m (z .state .needed - 1) (z .state) k)
-      ∙ (λ i. ran (z .state) (add-zero (z .taken) i) (append-nil (z .outputs) i) (add-zero (z .clips) i) HUNGRY)
+      ∙ (λ i. ran (z .state) (add-none (z .counts) HUNGRY i) (append-nil (z .outputs) i))
 
   pub pieces-whole : (ps : List Piece) → Spent (pieces [] ps s) → (m : ℕ)
       → let z = pieces [] ps s in
       (outputsOf s (blocks ps) (length (z .outputs) + m) ≡ z .outputs)
-      × (fedOf s (blocks ps) (length (z .outputs) + m) ≡ record { state = z .state; taken = z .taken; written = length (z .outputs); clips = z .clips; end = HUNGRY; refusal = 0 })
+      × (fedOf s (blocks ps) (length (z .outputs) + m) ≡ record { state = z .state; counts = allHungry z; refusal = 0 })
   pieces-whole ps e m =
       let z : Pieced = pieces [] ps s in
       let f = fed-rule s (state-is s h) (blocks ps) (length (z .outputs) + m) in
@@ -196,10 +184,10 @@ module _ (s : State) (h : Sound s) (l : s .register < 2 ^ 32) where
 
   -- so two ways to cut a stream, each fed until it is spent, give the same outputs, clips and state
   pub pieces-alike : (ps qs : List Piece) → blocks ps ≡ blocks qs → Spent (pieces [] ps s) → Spent (pieces [] qs s)
-      → let y = pieces [] ps s in let z = pieces [] qs s in (y .outputs ≡ z .outputs) × (y .clips ≡ z .clips) × (y .state ≡ z .state)
+      → let y = pieces [] ps s in let z = pieces [] qs s in (y .outputs ≡ z .outputs) × (y .counts .clips ≡ z .counts .clips) × (y .state ≡ z .state)
   pieces-alike ps qs b d e =
       let y : Pieced = pieces [] ps s in
       let z : Pieced = pieces [] qs s in
       let n : length (y .outputs) + length (z .outputs) ≡ length (z .outputs) + length (y .outputs) = omega arith in
       let w = sym (spent-run ps d (length (z .outputs))) ∙ (λ i. rule (b i) (n i) s) ∙ spent-run qs e (length (y .outputs)) in
-      (ap (λ (r : Ran). r .outputs) w, ap (λ (r : Ran). r .clips) w, ap (λ (r : Ran). r .state) w)
+      (ap (λ (r : Ran). r .outputs) w, ap (λ (r : Ran). r .counts .clips) w, ap (λ (r : Ran). r .state) w)

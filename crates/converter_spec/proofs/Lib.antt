@@ -1,7 +1,9 @@
-pub mod States
-pub mod Turns
+pub mod StaysSound
+pub mod RuleSteps
+pub mod Counts
 pub mod Runs
 pub mod Feeds
+pub mod Parts
 pub mod Count
 pub mod Amounts
 pub mod PaperRun
@@ -9,3 +11,4 @@ pub mod Follows
 pub mod Third
 pub mod Traces
 pub mod OneFeed
+pub mod MostOutputs

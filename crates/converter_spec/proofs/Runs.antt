@@ -1,26 +1,29 @@
 -- Laws of runs: their sizes and ends, that an accepted state stays accepted, that a run over more input or space begins with the run over less, and that numbers and ends do not
 -- depend on samples. Assumes nothing.
 use mathlib.Core.Path.{_≡_, refl, sym, ap, _∙_}
-use mathlib.Core.Bool.{Bool, true, false, cond}
 use mathlib.Core.List.{List, [], _∷_, _++_}
 use Prim.Native.Nat.{ℕ, suc, _+_, _-_, _^_, _≤_, _<_}
 use native.Mathlib.Omega.{arith}
-use native.Mathlib.Nat.{zero-add, add-assoc}
 use lib.IntN.{ℤ}
 use lib.ListN.{length, drop}
 use Rattle.oscillator_spec.specs.Register.{stepped, advanceOf}
 use Rattle.oscillator_spec.proofs.Positions.{stepped-below}
 use Rattle.kernels_spec.specs.Kernel.{kernelOf}
-use Rattle.kernels_spec.specs.Value.{clipOf}
-use Rattle.converter_spec.specs.declared.state.State.{State}
-use Rattle.converter_spec.specs.Feeding.{HUNGRY, FULL, outputNext, clipNext, advanced, taking, Ran, ended, wrote, took, rule}
-use Rattle.converter_spec.proofs.States.{Sound, sound-advanced, sound-taking}
-use Rattle.converter_spec.proofs.Turns.{rule-write, rule-full, rule-take, rule-hungry, rule-ind}
+use Rattle.kernels_spec.specs.Clips.{total}
+use Rattle.kernels_spec.proofs.Counting.{total-none, total-plus}
+use Rattle.kernels_spec.proofs.Card.{clip-most}
+use Rattle.converter_state.specs.declared.state.State.{State}
+use Rattle.converter_spec.specs.declared.feeding.End.{End}
+use Rattle.converter_spec.specs.Feeding.{HUNGRY, FULL, addCounts, outputNext, clipNext, advanced, taking, Ran, ran, ended, wrote, took, rule}
+use Rattle.converter_state.proofs.States.{Sound}
+use Rattle.converter_spec.proofs.StaysSound.{sound-advanced, sound-taking}
+use Rattle.converter_spec.proofs.Counts.{none-add, taken-add, written-add}
+use Rattle.converter_spec.proofs.RuleSteps.{rule-write, rule-full, rule-take, rule-hungry, rule-ind}
 
 -- ---- how a run ends: FULL has used its space and needs no sample, HUNGRY has taken all and needs one
 pub data Ending (xs : List ℤ) (n : ℕ) (r : Ran) : Type 0 where
-  full : r .end ≡ FULL → length (r .outputs) ≡ n → r .taken ≤ length xs → r .state .needed ≡ 0 → Ending xs n r
-  hungry : r .end ≡ HUNGRY → length (r .outputs) ≤ n → r .taken ≡ length xs → 1 ≤ r .state .needed → Ending xs n r
+  full : r .counts .end ≡ FULL → length (r .outputs) ≡ n → r .counts .taken ≤ length xs → r .state .needed ≡ 0 → Ending xs n r
+  hungry : r .counts .end ≡ HUNGRY → length (r .outputs) ≤ n → r .counts .taken ≡ length xs → 1 ≤ r .state .needed → Ending xs n r
 
 pub rule-ending : (xs : List ℤ) (n : ℕ) (s : State) → Ending xs n (rule xs n s)
 rule-ending =
@@ -38,21 +41,20 @@ rule-ending =
     takes x xs n r (full a b c d) = full a b (omega arith) d
     takes x xs n r (hungry a b c d) = hungry a b (omega arith) d
 
-pub ending-sizes : {xs : List ℤ} {n : ℕ} {r : Ran} → Ending xs n r → (r .taken ≤ length xs) × (length (r .outputs) ≤ n)
+pub ending-sizes : {xs : List ℤ} {n : ℕ} {r : Ran} → Ending xs n r → (r .counts .taken ≤ length xs) × (length (r .outputs) ≤ n)
 ending-sizes (full a b c d) = (c, omega arith)
 ending-sizes (hungry a b c d) = (omega arith, b)
 
--- ---- clips are no more than outputs
-one-most : (t : Bool) → cond t 1 0 ≤ 1
-one-most true = omega arith
-one-most false = omega arith
+-- ---- as many are counted as written, and clips are no more
+pub rule-written : (xs : List ℤ) (n : ℕ) (s : State) → rule xs n s .counts .written ≡ length (rule xs n s .outputs)
+rule-written = rule-ind (λ xs n s r. r .counts .written ≡ length (r .outputs)) (λ xs s e. refl) (λ xs n s r e h. ap suc h) (λ n k s e. refl) (λ x xs n k s r e h. h)
 
-pub rule-clips : (xs : List ℤ) (n : ℕ) (s : State) → rule xs n s .clips ≤ length (rule xs n s .outputs)
+pub rule-clips : (xs : List ℤ) (n : ℕ) (s : State) → total (rule xs n s .counts .clips) ≤ length (rule xs n s .outputs)
 rule-clips =
-    rule-ind (λ xs n s r. r .clips ≤ length (r .outputs))
-    (λ xs s e. omega arith)
-    (λ xs n s r e h. omega (arith, one-most (clipOf (kernelOf (s .kernel)) (s .register) (s .window))))
-    (λ n k s e. omega arith)
+    rule-ind (λ xs n s r. total (r .counts .clips) ≤ length (r .outputs))
+    (λ xs s e. omega (arith, total-none))
+    (λ xs n s r e h. omega (arith, total-plus (clipNext s) (r .counts .clips), clip-most (kernelOf (s .kernel)) (s .register) (s .window)))
+    (λ n k s e. omega (arith, total-none))
     (λ x xs n k s r e h. h)
 
 -- ---- an accepted state stays accepted, and its register 32 bits wide
@@ -66,41 +68,38 @@ rule-sound =
     (λ x xs n k s r e f h l. f (sound-taking s x h) l)
 
 -- ---- the run r, and then the run from where it stopped
-abbrev pub ran : State → ℕ → List ℤ → ℕ → ℕ → Ran
-ran s t ys c e = record { state = s; taken = t; outputs = ys; clips = c; end = e }
-
 abbrev pub then : Ran → Ran → Ran
-then r z = ran (z .state) (r .taken + z .taken) (r .outputs ++ z .outputs) (r .clips + z .clips) (z .end)
+then r z = ran (z .state) (addCounts (r .counts) (z .counts)) (r .outputs ++ z .outputs)
 
-pub nothing-then : (s : State) (e : ℕ) (z : Ran) → z ≡ then (ended s e) z
-nothing-then s e z = λ i. ran (z .state) (sym (zero-add (z .taken)) i) (z .outputs) (sym (zero-add (z .clips)) i) (z .end)
+pub nothing-then : (s : State) (e : End) (z : Ran) → z ≡ then (ended s e) z
+nothing-then s e z = λ i. ran (z .state) (sym (none-add e (z .counts)) i) (z .outputs)
 
 wrote-then : (s : State) (r z : Ran) → wrote s (then r z) ≡ then (wrote s r) z
-wrote-then s r z = λ i. ran (z .state) (r .taken + z .taken) (outputNext s ∷ (r .outputs ++ z .outputs)) (sym (add-assoc (clipNext s) (r .clips) (z .clips)) i) (z .end)
+wrote-then s r z = λ i. ran (z .state) (written-add (clipNext s) (r .counts) (z .counts) i) (outputNext s ∷ (r .outputs ++ z .outputs))
 
 took-then : (r z : Ran) → took (then r z) ≡ then (took r) z
-took-then r z = let e : suc (r .taken + z .taken) ≡ suc (r .taken) + z .taken = omega arith in λ i. ran (z .state) (e i) (r .outputs ++ z .outputs) (r .clips + z .clips) (z .end)
+took-then r z = λ i. ran (z .state) (taken-add (r .counts) (z .counts) i) (r .outputs ++ z .outputs)
 
 -- A run over xs, followed by ys, with space for all that the run over xs wrote, and perhaps more: it is the run over xs, and then the run over what that left and ys.
 pub rule-more : (xs : List ℤ) (n : ℕ) (s : State) (ys : List ℤ) (m : ℕ) → length (rule xs n s .outputs) ≤ m
-    → rule (xs ++ ys) m s ≡ then (rule xs n s) (rule (drop (rule xs n s .taken) xs ++ ys) (m - length (rule xs n s .outputs)) (rule xs n s .state))
+    → rule (xs ++ ys) m s ≡ then (rule xs n s) (rule (drop (rule xs n s .counts .taken) xs ++ ys) (m - length (rule xs n s .outputs)) (rule xs n s .state))
 rule-more =
-    rule-ind (λ xs n s r. (ys : List ℤ) (m : ℕ) → length (r .outputs) ≤ m → rule (xs ++ ys) m s ≡ then r (rule (drop (r .taken) xs ++ ys) (m - length (r .outputs)) (r .state)))
+    rule-ind (λ xs n s r. (ys : List ℤ) (m : ℕ) → length (r .outputs) ≤ m → rule (xs ++ ys) m s ≡ then r (rule (drop (r .counts .taken) xs ++ ys) (m - length (r .outputs)) (r .state)))
     (λ xs s e ys m h. stop xs s FULL ys m)
     (λ xs n s r e f ys m h. write xs s r e ys (m - 1) m (omega (arith, h)) (f ys (m - 1) (omega (arith, h))))
     (λ n k s e ys m h. stop [] s HUNGRY ys m)
     (λ x xs n k s r e f ys m h. rule-take x (xs ++ ys) m k s e ∙ ap took (f ys m h) ∙ took-then r _)
   where
-    stop : (xs : List ℤ) (s : State) (e : ℕ) (ys : List ℤ) (m : ℕ) → rule (xs ++ ys) m s ≡ then (ended s e) (rule (xs ++ ys) (m - 0) s)
+    stop : (xs : List ℤ) (s : State) (e : End) (ys : List ℤ) (m : ℕ) → rule (xs ++ ys) m s ≡ then (ended s e) (rule (xs ++ ys) (m - 0) s)
     stop xs s e ys m = nothing-then s e (rule (xs ++ ys) m s) ∙ ap (λ k. then (ended s e) (rule (xs ++ ys) k s)) (omega arith)
 
     write : (xs : List ℤ) (s : State) (r : Ran) → s .needed ≡ 0 → (ys : List ℤ) (j m : ℕ) → m ≡ suc j
-        → rule (xs ++ ys) j (advanced s) ≡ then r (rule (drop (r .taken) xs ++ ys) (j - length (r .outputs)) (r .state))
-        → rule (xs ++ ys) m s ≡ then (wrote s r) (rule (drop (r .taken) xs ++ ys) (m - suc (length (r .outputs))) (r .state))
+        → rule (xs ++ ys) j (advanced s) ≡ then r (rule (drop (r .counts .taken) xs ++ ys) (j - length (r .outputs)) (r .state))
+        → rule (xs ++ ys) m s ≡ then (wrote s r) (rule (drop (r .counts .taken) xs ++ ys) (m - suc (length (r .outputs))) (r .state))
     write xs s r e ys j m h f =
         let k : j - length (r .outputs) ≡ m - suc (length (r .outputs)) = omega arith in
         ap (λ l. rule (xs ++ ys) l s) h ∙ rule-write (xs ++ ys) j s e ∙ ap (wrote s) f ∙ wrote-then s r _
-        ∙ ap (λ l. then (wrote s r) (rule (drop (r .taken) xs ++ ys) l (r .state))) k
+        ∙ ap (λ l. then (wrote s r) (rule (drop (r .counts .taken) xs ++ ys) l (r .state))) k
 
 -- ---- taken, written, end, and the state's numbers depend on the number of samples alone
 pub record Alike (s t : State) : Type 0 where
@@ -111,9 +110,9 @@ pub record Alike (s t : State) : Type 0 where
 
 pub record AlikeRuns (r z : Ran) : Type 0 where
   pub state : Alike (r .state) (z .state)
-  pub taken : r .taken ≡ z .taken
+  pub taken : r .counts .taken ≡ z .counts .taken
   pub written : length (r .outputs) ≡ length (z .outputs)
-  pub end : r .end ≡ z .end
+  pub end : r .counts .end ≡ z .counts .end
 
 alike-advanced : {s t : State} → Alike s t → Alike (advanced s) (advanced t)
 unfolding advanced

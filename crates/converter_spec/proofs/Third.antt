@@ -10,20 +10,22 @@ use lib.ListN.{length, take, drop, getD, length-append, length-map}
 use lib.Seq.{take-append-seam, length-take-le}
 use Rattle.oscillator_spec.specs.declared.settings.Setting.{Setting}
 use Rattle.oscillator_spec.specs.Word.{Outcome, word, refused, wordOf}
+use Rattle.oscillator_spec.specs.Position.{Oscillator}
 use Rattle.kernels_spec.specs.Kernel.{Kernel, kernelOf}
 use Rattle.kernels_spec.specs.Value.{value}
 use Rattle.kernels_spec.specs.Distance.{CloseAt}
 use Rattle.kernels_spec.proofs.Close.{value-close}
-use Rattle.converter_spec.specs.declared.state.State.{State}
-use Rattle.converter_spec.specs.declared.state.Retuned.{Retuned}
+use Rattle.converter_state.specs.declared.state.State.{State}
+use Rattle.converter_state.specs.declared.state.Retuned.{Retuned}
 use Rattle.converter_spec.specs.declared.feeding.Fed.{Fed}
-use Rattle.converter_spec.specs.Start.{lastRead, isState, retuned}
-use Rattle.converter_spec.specs.Feeding.{endNumber, Ran, rule, Answer, answerOf, accepted, over, FedRight}
+use Rattle.converter_state.specs.Start.{lastRead, isState, retuned}
+use Rattle.bytes_spec.specs.Overwritten.{over}
+use Rattle.converter_spec.specs.Feeding.{endNumber, Ran, ran, rule, accepted, FedRight}
 use Rattle.converter_spec.specs.Paper.{Paper, Did, begin, count, outputsOver, feeds, reworded, retunes, does, run, afterwards, positions}
 use Rattle.converter_spec.specs.Paper as paper
 use Rattle.converter_spec.specs.Demand.{Call, feed, retune, Meets, after, Seen, given, compared, written, outputs, clipped, clipsAt, Ends, EachEnds, Agrees, Third}
-use Rattle.converter_spec.proofs.States.{retune-setting, retune-word}
-use Rattle.converter_spec.proofs.Runs.{Ending, full, hungry, rule-ending, ending-sizes}
+use Rattle.converter_state.proofs.States.{retune-setting, retune-word}
+use Rattle.converter_spec.proofs.Runs.{Ending, full, hungry, rule-ending, ending-sizes, rule-written}
 use Rattle.converter_spec.proofs.Feeds.{fed-rule}
 use Rattle.converter_spec.proofs.Count.{first-length, map-at, count-none, count-some}
 use Rattle.converter_spec.proofs.PaperRun.{onward, run-made, run-grows}
@@ -32,43 +34,43 @@ use Rattle.converter_spec.proofs.Follows.{Reached, reached-at, reached-
 
 -- ---- a feed that is not refused: what it handed back is the rule's
 abbrev pub ranOf : Fed → List ℤ → Ran
-ranOf f left = record { state = f .state; taken = f .taken; outputs = take (f .written) left; clips = f .clips; end = endNumber (f .end) }
+ranOf f left = ran (f .state) (f .counts) (take (f .counts .written) left)
 
 pub record AsRule (s : State) (input old : List ℤ) (f : Fed) (left : List ℤ) : Type 0 where
-  pub ran : rule input (length old) s ≡ ranOf f left
-  pub count : length (take (f .written) left) ≡ f .written
+  pub runs : rule input (length old) s ≡ ranOf f left
+  pub count : length (take (f .counts .written) left) ≡ f .counts .written
   pub refusal : f .refusal ≡ 0
 
 pub feed-accepted : {s : State} {input old : List ℤ} {f : Fed} {left : List ℤ} → isState s ≡ true → FedRight s input old f left → AsRule s input old f left
 feed-accepted {s} {input} {old} {f} {left} e h =
     let r : Ran = rule input (length old) s in
     let z = fed-rule s e input (length old) in
-    let a : answerOf f ≡ accepted r = h .answer ∙ z .0 in
-    let w : f .written ≡ length (r .outputs) = ap (λ (t : Answer). t .written) a in
-    let o : take (f .written) left ≡ r .outputs = ap (λ n. take n left) w ∙ ap (take (length (r .outputs))) (h .buffer ∙ ap (λ ys. over ys old) (z .1)) ∙ take-append-seam (r .outputs) (drop (length (r .outputs)) old) in
+    let a : f ≡ accepted r = h .answer ∙ z .0 in
+    let w : f .counts .written ≡ length (r .outputs) = ap (λ (t : Fed). t .counts .written) a ∙ rule-written input (length old) s in
+    let o : take (f .counts .written) left ≡ r .outputs = ap (λ n. take n left) w ∙ ap (take (length (r .outputs))) (h .buffer ∙ ap (λ ys. over ys old) (z .1)) ∙ take-append-seam (r .outputs) (drop (length (r .outputs)) old) in
     record {
-      ran = sym (λ i. record { state = a i .state; taken = a i .taken; outputs = o i; clips = a i .clips; end = a i .end });
+      runs = sym (λ i. ran (a i .state) (a i .counts) (o i));
       count = ap length o ∙ sym w;
-      refusal = ap (λ (t : Answer). t .refusal) a;
+      refusal = ap (λ (t : Fed). t .refusal) a;
     }
 
 module _ {s : State} {p : Paper} {input old : List ℤ} {f : Fed} {left : List ℤ} (y : Sync s p) (h : FedRight s input old f left) where
   pub feed-placed : Placed p input (ranOf f left)
-  feed-placed = subst (Placed p input) (feed-accepted (sync-state y) h .ran) (follows input (length old) s p y)
+  feed-placed = subst (Placed p input) (feed-accepted (sync-state y) h .runs) (follows input (length old) s p y)
 
   pub feed-ending : Ending input (length old) (ranOf f left)
-  feed-ending = subst (Ending input (length old)) (feed-accepted (sync-state y) h .ran) (rule-ending input (length old) s)
+  feed-ending = subst (Ending input (length old)) (feed-accepted (sync-state y) h .runs) (rule-ending input (length old) s)
 
   pub feed-same : feeds p input (length old) ≡ alike p input (ranOf f left)
   feed-same = same input (length old) p (ranOf f left) y feed-placed feed-ending
 
 -- ---- one call
 abbrev pub takenBy : Call → ℕ
-takenBy (feed input old f left) = f .taken
+takenBy (feed input old f left) = f .counts .taken
 takenBy (retune a r) = 0
 
 abbrev pub writtenBy : Call → ℕ
-writtenBy (feed input old f left) = f .written
+writtenBy (feed input old f left) = f .counts .written
 writtenBy (retune a r) = 0
 
 -- the call c beside what the paper did at p
@@ -88,10 +90,10 @@ feed-step {s} {p} {input} {old} {f} {left} y m =
     let l = ending-sizes (feed-ending y m) .0 in
     rw (feed-same y m)
     (record {
-      same = λ i. paper.fed (f .taken) (sym (a .count) i) (endNumber (f .end)) (a .refusal i);
+      same = λ i. paper.fed (f .counts .taken) (sym (a .count) i) (endNumber (f .counts .end)) (a .refusal i);
       sync = h .sync;
-      taken = omega (arith, length-append (p .joined) (take (f .taken) input), length-take-le (f .taken) input l);
-      count = first-length (p .position) (p .word) (length (take (f .written) left)) ∙ a .count;
+      taken = omega (arith, length-append (p .joined) (take (f .counts .taken) input), length-take-le (f .counts .taken) input l);
+      count = first-length (p .oscillator) (length (take (f .counts .written) left)) ∙ a .count;
       reached = h .reached;
       values = h .outputs;
       clips = h .clips;
@@ -111,7 +113,7 @@ retune-step {s} {p} a r y m = go (wordOf a) refl
         nothing-made w 0 (ap (λ (u : Retuned). u .refusal) is) (rw is (sync-retune w y (t .1)))
     go (refused n) e =
         let is = m ∙ retune-setting s a n (sync-state y) e in
-        nothing-made (p .word) n (ap (λ (u : Retuned). u .refusal) is) (rw is y)
+        nothing-made (p .oscillator .word) n (ap (λ (u : Retuned). u .refusal) is) (rw is y)
 
 pub step : (c : Call) (s : State) (p : Paper) → Sync s p → Meets s c → Step p c (does p (given c))
 unfolding does
@@ -154,10 +156,10 @@ agreed (c ∷ cs) s p y h =
 
 -- ---- the last sentence
 -- where all that was made is reached, "the outputs k = 0, 1, 2 and so on before the first whose b + R is n or more" are those made and those counted ahead
-pub outputs-over : (κ : Kernel) (n : ℕ) (qs : List ℕ) (w q : ℕ) → Reached κ n qs → outputsOver κ n qs w q ≡ length qs + count κ w q n
+pub outputs-over : (κ : Kernel) (n : ℕ) (qs : List ℕ) (o : Oscillator) → Reached κ n qs → outputsOver κ n qs o ≡ length qs + count κ o n
 unfolding outputsOver
-outputs-over κ n [] w q h = omega arith
-outputs-over κ n (p ∷ qs) w q h = rw (lt-ltb (lastRead κ p) n (h .0), outputsOver) (omega (arith, outputs-over κ n qs w q (h .1)))
+outputs-over κ n [] o h = omega arith
+outputs-over κ n (p ∷ qs) o h = rw (lt-ltb (lastRead κ p) n (h .0), outputsOver) (omega (arith, outputs-over κ n qs o (h .1)))
 
 -- what is known before a call: n samples are joined, m outputs made, at the positions qs, and these are reached
 record Before (p : Paper) (qs : List ℕ) (n m : ℕ) : Type 0 where
@@ -185,20 +187,20 @@ feed-ends {s} {p} {p′} {qs} {n} {m} {input} {old} {f} {left} y h z b = by-end 
     κ : Kernel
     κ = kernelIn p′
 
-    all : outputsOver κ n qs (p′ .word) (p′ .position) ≡ m + count κ (p′ .word) (p′ .position) n
-    all = omega (arith, b .made, outputs-over κ n qs (p′ .word) (p′ .position) (b .reached))
+    all : outputsOver κ n qs (p′ .oscillator) ≡ m + count κ (p′ .oscillator) n
+    all = omega (arith, b .made, outputs-over κ n qs (p′ .oscillator) (b .reached))
 
     next : n + f .state .needed ≡ last p′ + 1
     next = omega (arith, b .samples, needed-is z)
 
     by-end : Ending input (length old) (ranOf f left) → Ends p′ qs n m input old f
     by-end (full e w l k) =
-        let some = count-some κ (p′ .word) (p′ .position) n (z .sound .above) (omega (arith, next)) in
+        let some = count-some κ (p′ .oscillator) n (z .sound .above) (omega (arith, next)) in
         let c = feed-accepted (sync-state y) h .count in
-        record { hungry = ((λ a. absurd (omega arith)), (λ a. absurd (omega (arith, all)))); full = λ a. (e, omega arith) }
+        record { hungry = ((λ a. absurd (omega (arith, a, ap endNumber e))), (λ a. absurd (omega (arith, all)))); full = λ a. (ap endNumber e, omega arith) }
     by-end (hungry e w l k) =
-        let none = count-none κ (p′ .word) (p′ .position) n (z .sound .above) (omega (arith, next)) in
-        record { hungry = ((λ a. (l, omega (arith, all))), (λ a. e)); full = λ a. absurd (a e) }
+        let none = count-none κ (p′ .oscillator) n (z .sound .above) (omega (arith, next)) in
+        record { hungry = ((λ a. (l, omega (arith, all))), (λ a. ap endNumber e)); full = λ a. absurd (a (ap endNumber e)) }
 
 each-ends : (cs : List Call) (s : State) (p : Paper) (qs : List ℕ) (n m : ℕ) → Sync s p → Before p qs n m → Seen s cs → EachEnds qs n m cs (run p (map given cs))
 unfolding EachEnds Seen run

@@ -4,7 +4,6 @@
 -- The card's side is what was seen of it: the calls with their arguments, their answers and the buffers that they left. All that is known of these is what the contracts of start, feed
 -- and retune say, so the statement holds of any program that meets them.
 use mathlib.Core.Path.{_≡_}
-use mathlib.Core.Bool.{cond}
 use mathlib.Core.List.{List, [], _∷_, _++_, map}
 use mathlib.Core.Logic.{_↔_}
 use Prim.Native.Nat.{ℕ, _+_, _^_, _<_}
@@ -12,13 +11,15 @@ use lib.IntN.{ℤ, pos}
 use lib.ListN.{length, take, getD}
 use Rattle.oscillator_spec.specs.declared.settings.Setting.{Setting}
 use Rattle.kernels_spec.specs.Kernel.{Kernel, kernelOf}
+use Rattle.kernels_spec.specs.declared.clips.Clips.{Clips}
+use Rattle.kernels_spec.specs.Clips.{noClips, plus}
 use Rattle.kernels_spec.specs.Value.{value, valueClips}
 use Rattle.kernels_spec.specs.Distance.{CloseAt}
-use Rattle.converter_spec.specs.declared.state.State.{State}
-use Rattle.converter_spec.specs.declared.state.Started.{Started}
-use Rattle.converter_spec.specs.declared.state.Retuned.{Retuned}
+use Rattle.converter_state.specs.declared.state.State.{State}
+use Rattle.converter_state.specs.declared.state.Started.{Started}
+use Rattle.converter_state.specs.declared.state.Retuned.{Retuned}
 use Rattle.converter_spec.specs.declared.feeding.Fed.{Fed}
-use Rattle.converter_spec.specs.Start.{lastRead, started, retuned}
+use Rattle.converter_state.specs.Start.{lastRead, started, retuned}
 use Rattle.converter_spec.specs.Feeding.{HUNGRY, FULL, endNumber, FedRight}
 use Rattle.converter_spec.specs.Paper.{Given, Compared, Paper, Did, begin, outputsOver, run, afterwards, positions, fed as fed-counts, tuned}
 use Rattle.converter_spec.specs.Paper as paper
@@ -50,40 +51,40 @@ given (feed input old f left) = paper.feed input (length old)
 given (retune a r) = paper.retune a
 
 abbrev pub compared : Call → Compared
-compared (feed input old f left) = fed-counts (f .taken) (f .written) (endNumber (f .end)) (f .refusal)
+compared (feed input old f left) = fed-counts (f .counts .taken) (f .counts .written) (endNumber (f .counts .end)) (f .refusal)
 compared (retune a r) = tuned (r .refusal)
 
 -- "output k is what its place holds when that feed returns": of one call, and of the list
 abbrev pub written : Call → List ℤ
-written (feed input old f left) = take (f .written) left
+written (feed input old f left) = take (f .counts .written) left
 written (retune a r) = []
 
 unfoldable pub outputs : List Call → List ℤ
 outputs [] = []
 outputs (c ∷ cs) = written c ++ outputs cs
 
--- the clips that a call counted, and how many outputs at the positions qs are clips over the samples xs
-abbrev pub clipped : Call → ℕ
-clipped (feed input old f left) = f .clips
-clipped (retune a r) = 0
+-- the clips that a call counted, and those among the outputs at the positions qs over the samples xs
+abbrev pub clipped : Call → Clips
+clipped (feed input old f left) = f .counts .clips
+clipped (retune a r) = noClips
 
-unfoldable pub clipsAt : Kernel → List ℤ → List ℕ → ℕ
-clipsAt κ xs [] = 0
-clipsAt κ xs (q ∷ qs) = cond (valueClips κ xs q) 1 0 + clipsAt κ xs qs
+unfoldable pub clipsAt : Kernel → List ℤ → List ℕ → Clips
+clipsAt κ xs [] = noClips
+clipsAt κ xs (q ∷ qs) = plus (valueClips κ xs q) (clipsAt κ xs qs)
 
 -- ---- the last sentence
 -- "A feed ends hungry exactly when its input is spent and as many outputs are made as the paper has over the samples taken so far, and otherwise full, with its space all written": n
 -- samples are taken so far and m outputs made, this call's too; the paper stands at p, and its outputs so far at qs
 pub record Ends (p : Paper) (qs : List ℕ) (n m : ℕ) (input old : List ℤ) (f : Fed) : Type 0 where
-  pub hungry : endNumber (f .end) ≡ HUNGRY ↔ (f .taken ≡ length input) × (m ≡ outputsOver (kernelOf (p .kernel)) n qs (p .word) (p .position))
-  pub full : (endNumber (f .end) ≡ HUNGRY → ⊥) → (endNumber (f .end) ≡ FULL) × (f .written ≡ length old)
+  pub hungry : endNumber (f .counts .end) ≡ endNumber HUNGRY ↔ (f .counts .taken ≡ length input) × (m ≡ outputsOver (kernelOf (p .kernel)) n qs (p .oscillator))
+  pub full : (endNumber (f .counts .end) ≡ endNumber HUNGRY → ⊥) → (endNumber (f .counts .end) ≡ endNumber FULL) × (f .counts .written ≡ length old)
 
 -- of every feed in the list, beside what the paper did; before the list the paper's outputs stand at qs, n samples are taken and m outputs made
 unfoldable pub EachEnds : List ℕ → ℕ → ℕ → List Call → List Did → Type 0
 EachEnds qs n m [] did = Unit {0}
 EachEnds qs n m (c ∷ cs) [] = ⊥
 EachEnds qs n m (feed input old f left ∷ cs) (d ∷ did) =
-    Ends (d .paper) (qs ++ d .positions) (n + f .taken) (m + f .written) input old f × EachEnds (qs ++ d .positions) (n + f .taken) (m + f .written) cs did
+    Ends (d .paper) (qs ++ d .positions) (n + f .counts .taken) (m + f .counts .written) input old f × EachEnds (qs ++ d .positions) (n + f .counts .taken) (m + f .counts .written) cs did
 EachEnds qs n m (retune a r ∷ cs) (d ∷ did) = EachEnds qs n m cs did
 
 -- ---- the demand

@@ -1,4 +1,3 @@
-pub mod Start
 pub mod Feeding
 pub mod Paper
 pub mod Demand

@@ -8,22 +8,26 @@ use lib.IntN.{ℤ}
 use lib.ListN.{length, take}
 use Rattle.oscillator_spec.specs.declared.settings.Setting.{Setting}
 use Rattle.oscillator_spec.specs.Word.{Outcome, word, refused, wordOf}
+use Rattle.oscillator_spec.specs.Position.{Oscillator, oscillator, next}
 use Rattle.kernels_spec.specs.Kernel.{Kernel, kernelOf}
-use Rattle.converter_spec.specs.Start.{lastRead}
-use Rattle.converter_spec.specs.Feeding.{HUNGRY, FULL}
+use Rattle.converter_state.specs.Start.{lastRead}
+use Rattle.converter_spec.specs.declared.feeding.End.{End}
+use Rattle.converter_spec.specs.Feeding.{HUNGRY, FULL, endNumber}
 
 -- "each feed's input samples and output space, and each retune's setting"
 pub data Given : Type 0 where
   feed : List ℤ → ℕ → Given
   retune : Setting → Given
 
--- "It keeps the kernel, a word .., the joined samples .., the number of outputs made .. and the exact position Q of the next one .., which never wraps"
+-- "It keeps the kernel, a word .., the joined samples .., the number of outputs made .. and the exact position Q of the next one .., which never wraps": word and position are its oscillator
 pub record Paper : Type 0 where
   pub kernel : ℕ
-  pub word : ℕ
+  pub oscillator : Oscillator
   pub joined : List ℤ
   pub made : ℕ
-  pub position : ℕ
+
+abbrev pub paperOf : (kernel : ℕ) → Oscillator → (joined : List ℤ) → (made : ℕ) → Paper
+paperOf k o xs m = record { kernel = k; oscillator = o; joined = xs; made = m }
 
 -- "kernel, starting setting and P": "the starting one at first", "none at first", "0 at first", "P at first". A refused setting has no word, and starts no run
 abbrev pub wordIn : Outcome → ℕ
@@ -31,36 +35,43 @@ wordIn (word w) = w
 wordIn (refused n) = 0
 
 abbrev pub begin : ℕ → Setting → ℕ → Paper
-begin k a p = record { kernel = k; word = wordIn (wordOf a); joined = []; made = 0; position = p }
+begin k a p = paperOf k (oscillator p (wordIn (wordOf a))) [] 0
 
 -- ---- positions
--- "positions start at Q, and each next one adds the word": the position after i of them, and the first c
-abbrev pub ahead : ℕ → ℕ → ℕ → ℕ
-ahead q w zero = q
-ahead q w (suc i) = ahead (q + w) w i
+-- "positions start at Q, and each next one adds the word": the oscillator after i outputs, where output i stands, and where the first c stand
+abbrev pub ahead : Oscillator → ℕ → Oscillator
+ahead o zero = o
+ahead o (suc i) = ahead (next o) i
 
-abbrev pub first : ℕ → ℕ → ℕ → List ℕ
-first q w zero = []
-first q w (suc c) = q ∷ first (q + w) w c
+abbrev pub positionAt : Oscillator → ℕ → ℕ
+positionAt o i = ahead o i .position
+
+abbrev pub first : Oscillator → ℕ → List ℕ
+first o zero = []
+first o (suc c) = o .position ∷ first (next o) c
 
 -- Of the positions at 0, at 1, at 2 and so on, c "stand before the first whose b + R is e or more". There is one such number only (law `before-only`).
 pub record BeforeFirst (κ : Kernel) (at : ℕ → ℕ) (e c : ℕ) : Type 0 where
   pub before : (i : ℕ) → i < c → lastRead κ (at i) < e
   pub first : e ≤ lastRead κ (at c)
 
--- that number of the positions from q on, found by looking at one after another, at no more than f; with a word of 1 or more, e times 2^32 is enough (law `count-first`)
-unfoldable pub countIn : ℕ → Kernel → ℕ → ℕ → ℕ → ℕ
-countIn zero κ w q e = 0
-countIn (suc f) κ w q e = elim (ltb (lastRead κ q) e) [ true ↦ suc (countIn f κ w (q + w) e) | false ↦ 0 ]
+-- that number of the positions from the oscillator o on, found by looking at one after another, at no more than f; with a word of 1 or more, e times 2^32 is enough (law `count-first`)
+unfoldable pub countIn : ℕ → Kernel → Oscillator → ℕ → ℕ
+countIn zero κ o e = 0
+countIn (suc f) κ o e = elim (ltb (lastRead κ (o .position)) e) [ true ↦ suc (countIn f κ (next o) e) | false ↦ 0 ]
 
-unfoldable pub count : Kernel → ℕ → ℕ → ℕ → ℕ
-count κ w q e = countIn (e * 2 ^ 32) κ w q e
+unfoldable pub count : Kernel → Oscillator → ℕ → ℕ
+count κ o e = countIn (e * 2 ^ 32) κ o e
 
 -- "Over n joined samples the paper has the outputs k = 0, 1, 2 and so on before the first whose b + R is n or more (positions still ahead go on by the word in force)": how many, where
--- the outputs made stand at qs, and those ahead from q on, a word w apart (law `outputs-first`)
-unfoldable pub outputsOver : Kernel → ℕ → List ℕ → ℕ → ℕ → ℕ
-outputsOver κ n [] w q = count κ w q n
-outputsOver κ n (p ∷ qs) w q = elim (ltb (lastRead κ p) n) [ true ↦ suc (outputsOver κ n qs w q) | false ↦ 0 ]
+-- the outputs made stand at qs, and those ahead from the oscillator o on (law `outputs-first`)
+unfoldable pub outputsOver : Kernel → ℕ → List ℕ → Oscillator → ℕ
+outputsOver κ n [] o = count κ o n
+outputsOver κ n (p ∷ qs) o = elim (ltb (lastRead κ p) n) [ true ↦ suc (outputsOver κ n qs o) | false ↦ 0 ]
+
+-- where they stand, none being made yet
+abbrev pub positionsOver : Kernel → Oscillator → ℕ → List ℕ
+positionsOver κ o n = first o (count κ o n)
 
 -- ---- a call
 -- what demand 3 compares of a call: "The number of samples joined in a feed, the number of outputs it made and its HUNGRY or FULL"; and its refusal, 0 where there is none, so
@@ -76,27 +87,27 @@ pub record Did : Type 0 where
   pub positions : List ℕ
 
 -- j of the input samples joined and c outputs made, ending e. "Either way Q becomes the position after the outputs made"
-abbrev pub joins : Paper → List ℤ → ℕ → ℕ → ℕ → Did
+abbrev pub joins : Paper → List ℤ → ℕ → ℕ → End → Did
 joins p xs j c e = record {
-  paper = record { kernel = p .kernel; word = p .word; joined = p .joined ++ take j xs; made = p .made + c; position = ahead (p .position) (p .word) c };
-  compared = fed j c e 0;
-  positions = first (p .position) (p .word) c;
+  paper = paperOf (p .kernel) (ahead (p .oscillator) c) (p .joined ++ take j xs) (p .made + c);
+  compared = fed j c (endNumber e) 0;
+  positions = first (p .oscillator) c;
 }
 
 -- c: "Feed with L input samples .., n samples joined before: .. c of them stand before the first whose b + R is n + L or more"
 unfoldable pub counted : Paper → List ℤ → ℕ
-counted p xs = count (kernelOf (p .kernel)) (p .word) (p .position) (length (p .joined) + length xs)
+counted p xs = count (kernelOf (p .kernel)) (p .oscillator) (length (p .joined) + length xs)
 
 -- "If c is at most S, the paper joins all L samples and makes c outputs: HUNGRY. Otherwise it makes S outputs, and joins the first b + R + 1 − n of the input, b being the basepoint of
 -- the position after those outputs: FULL." (In a run from a start n is at most b + R + 1, and what is joined at most L.)
 unfoldable pub feeds : Paper → List ℤ → ℕ → Did
 feeds p xs space = cond (leb (counted p xs) space)
     (joins p xs (length xs) (counted p xs) HUNGRY)
-    (joins p xs (lastRead (kernelOf (p .kernel)) (ahead (p .position) (p .word) space) + 1 - length (p .joined)) space FULL)
+    (joins p xs (lastRead (kernelOf (p .kernel)) (positionAt (p .oscillator) space) + 1 - length (p .joined)) space FULL)
 
 -- the paper with another word
 abbrev pub reworded : Paper → ℕ → Paper
-reworded p w = record { kernel = p .kernel; word = w; joined = p .joined; made = p .made; position = p .position }
+reworded p w = paperOf (p .kernel) (oscillator (p .oscillator .position) w) (p .joined) (p .made)
 
 -- "Retune: where the table refuses its arguments, nothing changes. Otherwise the word is replaced." (The paper has no state that could be refused.)
 abbrev pub retunes : Paper → Outcome → Did

@@ -1,13 +1,7 @@
-// The converter: its state, start and retune, and what a feed answers. The definitions stand in specs/, with the statement of demand 3; the function `feed` stands in the crate `converter`.
+// The converter: what a feed answers, and in specs/ the feeding rule, the paper's run and the statement of demand 3, with their laws in proofs/. The state stands in `converter_state`, and the
+// functions are those of `converter`.
 mod feeding;
-mod state;
 
+pub use feeding::Counts;
 pub use feeding::End;
 pub use feeding::Fed;
-pub use state::Retuned;
-pub use state::Started;
-pub use state::State;
-pub use state::is_kernel;
-pub use state::is_state;
-pub use state::no_state;
-pub use state::start;

@@ -3,14 +3,21 @@ use crate::digits::byte_sum;
 use crate::digits::number;
 use crate::line::read_front;
 use crate::line::tail;
+use frames_spec::COUNT_LIMIT;
 use frames_spec::DataLine;
+use frames_spec::FRAME_DIGITS;
+use frames_spec::FRAME_LENGTH;
+use frames_spec::SAMPLE_DIGITS;
 ghost use mathlib.Core.Path.{_≡_};
 ghost use mathlib.Core.Bool.{true};
 ghost use Prim.Native.Nat.{_+_, _*_, _≤_};
 ghost use lib.ListN.{length};
-ghost use Rattle.converter_spec.specs.Feeding.{over};
-ghost use Rattle.frames_spec.specs.Line.{allDigits, rest, used};
-ghost use Rattle.frames_spec.specs.Frame.{frameOf, samplesOf, dataLine, dataAnswer, DataRight};
+ghost use Rattle.bytes_spec.specs.Overwritten.{over};
+ghost use Rattle.frames_spec.specs.Line.{lineLimit, allDigits, rest, used};
+ghost use Rattle.frames_spec.specs.Frame.{frameOf, frameSamples, dataLine, dataAnswer, DataRight};
+
+// Where byte 10 would stand in a D line without samples.
+const FRAME_END: usize = 13;
 
 fn refused(refusal: u8) -> DataLine
     ensures { λ r. ⌜ r ≡ record { sequence = 0; count = 0; refusal = refusal } ⌝ }
@@ -24,20 +31,20 @@ fn refused(refusal: u8) -> DataLine
 
 // What the digits of a D line hold, for a sample buffer with so much space.
 fn judge_digits(ds: &[u8], space: usize) -> DataLine
-    requires { ⌜ (length (now ds) ≤ 268) × (allDigits (now ds) ≡ true) ⌝ }
+    requires { ⌜ (length (now ds) + 2 ≤ lineLimit) × (allDigits (now ds) ≡ true) ⌝ }
     ensures { λ r. ⌜ r ≡ dataAnswer (frameOf space (now (ds .entry))) ⌝ }
 {
-    if ds.len() < 12 {
+    if ds.len() < FRAME_DIGITS {
         return refused(9);
     }
     let count = number(&ds[8..10]) as usize;
     if count < 1 {
         return refused(9);
     }
-    if 64 < count {
+    if COUNT_LIMIT < count {
         return refused(9);
     }
-    if ds.len() != 12 + count * 4 {
+    if ds.len() != FRAME_DIGITS + count * SAMPLE_DIGITS {
         return refused(9);
     }
     if byte_sum(ds) % 256 != 0 {
@@ -58,7 +65,7 @@ fn judge_digits(ds: &[u8], space: usize) -> DataLine
 fn judge(line: &[u8], space: usize) -> DataLine
     ensures { λ r. ⌜ r ≡ dataAnswer (dataLine space (now (line .entry))) ⌝ }
 {
-    let f = read_front(line, 68);
+    let f = read_front(line, b'D');
     if f.refusal != 0 {
         return refused(f.refusal);
     }
@@ -69,12 +76,12 @@ fn judge(line: &[u8], space: usize) -> DataLine
 // Puts the samples of the digits of a D line at the front of the buffer.
 fn fill(ds: &[u8], count: usize, samples: &mut [i16])
     requires { ⌜ (12 + count * 4 ≤ length (now ds)) × (allDigits (now ds) ≡ true) × (count ≤ length (now samples)) ⌝ }
-    ensures { λ _. ⌜ now (samples .exit) ≡ over (samplesOf count (now (ds .entry))) (now (samples .entry)) ⌝ }
+    ensures { λ _. ⌜ now (samples .exit) ≡ over (frameSamples count (now (ds .entry))) (now (samples .entry)) ⌝ }
 {
     let mut i: usize = 0;
     while i < count {
-        let at = 10 + i * 4;
-        let v = number(&ds[at..at + 4]);
+        let at = 10 + i * SAMPLE_DIGITS;
+        let v = number(&ds[at..at + SAMPLE_DIGITS]);
         samples[i] = integers::signed(v as u16);
         i += 1;
     }
@@ -87,7 +94,7 @@ pub fn read_data(line: &[u8], samples: &mut [i16]) -> DataLine
     let d = judge(line, samples.len());
     if d.refusal == 0 {
         let count = d.count;
-        let end = 13 + count * 4;
+        let end = FRAME_END + count * SAMPLE_DIGITS;
         fill(&line[1..end], count, samples);
     }
     d
@@ -102,5 +109,5 @@ pub fn rest_data<'a>(line: &'a [u8], samples: &[i16]) -> &'a [u8]
     if d.refusal != 0 {
         return line;
     }
-    tail(line, 14 + d.count * 4)
+    tail(line, FRAME_LENGTH + d.count * SAMPLE_DIGITS)
 }

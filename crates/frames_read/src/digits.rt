@@ -3,23 +3,30 @@ ghost use mathlib.Core.Path.{_≡_};
 ghost use mathlib.Core.Bool.{true};
 ghost use Prim.Native.Nat.{_%_, _≤_, _<_, _^_};
 ghost use lib.ListN.{length};
-ghost use Rattle.frames_spec.specs.Line.{digitValue, digitOf, allDigits, number, byteSum};
+ghost use Rattle.frames_spec.specs.Line.{lineLimit, digitValue, digitOf, allDigits, number, byteSum};
+
+// The byte after the digit 9, the one after F, and the one that would stand for 0 before A to F.
+const AFTER_9: u8 = 58;
+
+const AFTER_F: u8 = 71;
+
+const A_LESS_10: u8 = 55;
 
 // The value of a digit, and 16 of any other byte.
 fn digit_value(b: u8) -> u8
     ensures { λ r. ⌜ (r ≡ digitValue b) × (r ≤ 16) ⌝ }
 {
-    if b < 48 {
+    if b < b'0' {
         return 16;
     }
-    if b < 58 {
-        return b - 48;
+    if b < AFTER_9 {
+        return b - b'0';
     }
-    if b < 65 {
+    if b < b'A' {
         return 16;
     }
-    if b < 71 {
-        return b - 55;
+    if b < AFTER_F {
+        return b - A_LESS_10;
     }
     16
 }
@@ -29,7 +36,7 @@ fn known_value(b: u8) -> u8
     requires { ⌜ digitValue b < 16 ⌝ }
     ensures { λ r. ⌜ r ≡ digitValue b ⌝ }
 {
-    if b < 58 { b - 48 } else { b - 55 }
+    if b < AFTER_9 { b - b'0' } else { b - A_LESS_10 }
 }
 
 // The digit of a number's last four bits.
@@ -37,7 +44,7 @@ pub fn digit(n: u64) -> u8
     ensures { λ r. ⌜ r ≡ digitOf (n % 16) ⌝ }
 {
     let d = (n % 16) as u8;
-    if d < 10 { 48 + d } else { 55 + d }
+    if d < 10 { b'0' + d } else { A_LESS_10 + d }
 }
 
 // Whether all bytes are digits. It looks at all of them, which is faster than to stop at the first that is none.
@@ -73,7 +80,7 @@ pub fn number(s: &[u8]) -> u64
 
 // The sum of the bytes that pairs of digits write.
 pub fn byte_sum(s: &[u8]) -> u32
-    requires { ⌜ (length (now s) ≤ 270) × (allDigits (now s) ≡ true) ⌝ }
+    requires { ⌜ (length (now s) ≤ lineLimit) × (allDigits (now s) ≡ true) ⌝ }
     ensures { λ r. ⌜ r ≡ byteSum (now (s .entry)) ⌝ }
 {
     let mut sum: u32 = 0;

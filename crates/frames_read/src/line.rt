@@ -1,9 +1,10 @@
 // What K and D lines share: where a line ends, its letter, and that digits follow.
 use crate::digits::all_digits;
+use frames_spec::LINE_LIMIT;
 ghost use mathlib.Core.Path.{_≡_};
 ghost use Prim.Native.Nat.{_+_, _≤_};
 ghost use lib.ListN.{length, take, drop};
-ghost use Rattle.frames_spec.specs.Line.{before10};
+ghost use Rattle.frames_spec.specs.Line.{lineLimit, before10};
 ghost use Rattle.frames_read.specs.Front.{FrontRight};
 
 // The place of a line's byte 10, where the line is not refused with 6, 7 or 8.
@@ -26,14 +27,14 @@ fn find10(s: &[u8]) -> usize
     i
 }
 
-// The first 270 bytes, or all.
+// The bytes among which byte 10 must be: the first `LINE_LIMIT`, or all.
 fn head(line: &[u8]) -> &[u8]
-    ensures { λ r. ⌜ now r ≡ take 270 (now (line .entry)) ⌝ }
+    ensures { λ r. ⌜ now r ≡ take lineLimit (now (line .entry)) ⌝ }
 {
-    if line.len() <= 270 {
+    if line.len() <= LINE_LIMIT {
         return line;
     }
-    &line[..270]
+    &line[..LINE_LIMIT]
 }
 
 // The front of a line that is to begin with a letter.

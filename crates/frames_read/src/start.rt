@@ -2,12 +2,14 @@
 use crate::digits::number;
 use crate::line::read_front;
 use crate::line::tail;
+use frames_spec::START_DIGITS;
+use frames_spec::START_LENGTH;
 use frames_spec::StartLine;
 ghost use mathlib.Core.Path.{_≡_};
 ghost use mathlib.Core.Bool.{true};
 ghost use Prim.Native.Nat.{_+_};
 ghost use Rattle.frames_spec.specs.Line.{allDigits, rest, used};
-ghost use Rattle.frames_spec.specs.Start.{startOf, startLine, startAnswer};
+ghost use Rattle.frames_spec.specs.StartLine.{startOf, startLine, startAnswer};
 
 fn refused(refusal: u8) -> StartLine
     ensures { λ r. ⌜ r ≡ record { kernel = 0; word = 0; phase = 0; refusal = refusal } ⌝ }
@@ -25,11 +27,11 @@ fn judge_digits(ds: &[u8]) -> StartLine
     requires { ⌜ allDigits (now ds) ≡ true ⌝ }
     ensures { λ r. ⌜ r ≡ startAnswer (startOf (now (ds .entry))) ⌝ }
 {
-    if ds.len() != 18 {
+    if ds.len() != START_DIGITS {
         return refused(9);
     }
     let kernel = number(&ds[..1]) as u8;
-    if !converter_spec::is_kernel(kernel) {
+    if !converter_state::is_kernel(kernel) {
         return refused(1);
     }
     let word = number(&ds[1..10]);
@@ -49,7 +51,7 @@ fn judge_digits(ds: &[u8]) -> StartLine
 pub fn read_start(line: &[u8]) -> StartLine
     ensures { λ r. ⌜ r ≡ startAnswer (startLine (now (line .entry))) ⌝ }
 {
-    let f = read_front(line, 75);
+    let f = read_front(line, b'K');
     if f.refusal != 0 {
         return refused(f.refusal);
     }
@@ -66,5 +68,5 @@ pub fn rest_start<'a>(line: &'a [u8]) -> &'a [u8]
     if k.refusal != 0 {
         return line;
     }
-    tail(line, 20)
+    tail(line, START_LENGTH)
 }

@@ -13,12 +13,12 @@ use lib.Seq.{drop-cons, set-at, take-append-seam, drop-append-seam}
 use Rattle.integers.specs.Table.{both}
 use Rattle.frames_spec.specs.declared.answers.DataLine.{DataLine}
 use Rattle.frames_spec.specs.Line.{allDigits, byteSum, Read, read, refused, refuseUnless, lineEnd, lineDigits}
-use Rattle.frames_spec.specs.Frame.{Frame, sequenceOf, countOf, sampleAt, samplesOf, hasLength, checkHolds, frameOf, dataLine, dataAnswer, filled}
+use Rattle.frames_spec.specs.Frame.{Frame, sequenceOf, countOf, sampleAt, frameSamples, hasLength, checkHolds, frameOf, dataLine, dataAnswer, filled}
 use Rattle.frames_spec.proofs.Lines.{between-part}
 use Rattle.frames_spec.proofs.Fronts.{refuses, passes, passed, Within, within-unless, within-then, front-within, line-read, refusalOf, was-read, refused-is, refusal-most}
 
 -- ---- the digits
--- what refusal 9 asks
+-- what refusal 9 asks; that there are 12 digits or more follows
 abbrev pub Long : List ℕ → Type 0
 Long ds = (1 ≤ countOf ds) × (countOf ds ≤ 64) × (length ds ≡ 12 + countOf ds * 4)
 
@@ -27,16 +27,19 @@ module _ (ds : List ℕ) where
   unfolding hasLength
   is-long e =
       let a = both _ (eqb (length ds) (12 + countOf ds * 4)) e in
-      let b = both (leb 12 (length ds) && leb 1 (countOf ds)) _ (a .0) in
-      let d = both (leb 12 (length ds)) (leb 1 (countOf ds)) (b .0) in
-      (leb-true 1 (countOf ds) (d .1), omega (arith, leb-true (countOf ds) _ (b .1)), eqb-true (length ds) (12 + countOf ds * 4) (a .1))
+      let b = both (leb 12 (length ds) && leb _ (countOf ds)) _ (a .0) in
+      let d = both (leb 12 (length ds)) _ (b .0) in
+      let least = leb-true _ (countOf ds) (d .1) in
+      let most = leb-true (countOf ds) _ (b .1) in
+      let size = eqb-true (length ds) _ (a .1) in
+      (omega arith, omega arith, omega arith)
 
   long-is : Long ds → hasLength ds ≡ true
   unfolding hasLength
   long-is h = rw (le-leb 12 (length ds) (omega arith), le-leb 1 (countOf ds) (h .0), le-leb (countOf ds) 64 (h .1), eq-eqb (length ds) (12 + countOf ds * 4) (h .2))
 
   abbrev fields : Frame
-  fields = record { sequence = sequenceOf ds; samples = samplesOf (countOf ds) ds }
+  fields = record { sequence = sequenceOf ds; samples = frameSamples (countOf ds) ds }
 
   module _ (space : ℕ) where
     abbrev fitted : Read Frame
@@ -80,17 +83,17 @@ module _ (ds : List ℕ) where
         (within-unless 6 11 (checkHolds ds) 10 fitted (omega arith) (omega arith) (within-unless 6 11 (leb (countOf ds) space) 11 (read fields) (omega arith) (omega arith) tt))
 
 -- ---- the samples
-pub samples-length : (n : ℕ) (ds : List ℕ) → length (samplesOf n ds) ≡ n
-unfolding samplesOf
+pub samples-length : (n : ℕ) (ds : List ℕ) → length (frameSamples n ds) ≡ n
+unfolding frameSamples
 samples-length zero ds = refl
 samples-length (suc n) ds = simp length-append (omega (arith, samples-length n ds))
 
 -- one turn of the loop that fills the buffer
-pub samples-step : (ds : List ℕ) (xs old : List ℤ) (i : ℕ) (v : ℤ) → i < length old → xs ≡ samplesOf i ds ++ drop i old → v ≡ sampleAt ds i
-    → set xs i v ≡ samplesOf (i + 1) ds ++ drop (i + 1) old
-unfolding samplesOf
+pub samples-step : (ds : List ℕ) (xs old : List ℤ) (i : ℕ) (v : ℤ) → i < length old → xs ≡ frameSamples i ds ++ drop i old → v ≡ sampleAt ds i
+    → set xs i v ≡ frameSamples (i + 1) ds ++ drop (i + 1) old
+unfolding frameSamples
 samples-step ds xs old i v l e w =
-    rw (add-one, e, drop-cons old i (pos 0), set-at (samplesOf i ds) (getD old i (pos 0)) (drop (suc i) old) v i (samples-length i ds), append-assoc, w)
+    rw (add-one, e, drop-cons old i (pos 0), set-at (frameSamples i ds) (getD old i (pos 0)) (drop (suc i) old) v i (samples-length i ds), append-assoc, w)
 
 -- ---- the line
 -- what the line is that was read: its size, and its samples in the part that the code lends to `fill`
@@ -100,7 +103,7 @@ pub record Framed (space : ℕ) (bs : List ℕ) (f : Frame) : Type 0 where
   pub few : length (f .samples) ≤ 64
   pub fits : length (f .samples) ≤ space
   pub digits : allDigits (take (13 + length (f .samples) * 4 - 1) (drop 1 bs)) ≡ true
-  pub samples : f .samples ≡ samplesOf (length (f .samples)) (take (13 + length (f .samples) * 4 - 1) (drop 1 bs))
+  pub samples : f .samples ≡ frameSamples (length (f .samples)) (take (13 + length (f .samples) * 4 - 1) (drop 1 bs))
 
 pub framed : (space : ℕ) (bs : List ℕ) (f : Frame) → dataLine space bs ≡ read f → Framed space bs f
 unfolding dataLine

@@ -8,10 +8,10 @@ use borrow.Author.Tests.{eqb-true, eq-eqb}
 use lib.Dec.{eqb}
 use lib.ListN.{length}
 use Rattle.oscillator_spec.specs.Word.{isWord}
-use Rattle.converter_spec.specs.Start.{isKernel}
+use Rattle.converter_state.specs.Start.{isKernel}
 use Rattle.frames_spec.specs.declared.answers.StartLine.{StartLine}
 use Rattle.frames_spec.specs.Line.{Read, read, refused, refuseUnless, lineEnd, lineDigits}
-use Rattle.frames_spec.specs.Start.{Start, fieldsOf, startOf, startLine, startAnswer}
+use Rattle.frames_spec.specs.StartLine.{Start, fieldsOf, startOf, startLine, startAnswer}
 use Rattle.frames_spec.proofs.Fronts.{refuses, passes, passed, Within, within-unless, within-then, front-within, field-below, line-read, refusalOf, was-read, refused-is, refusal-most}
 
 -- ---- the digits

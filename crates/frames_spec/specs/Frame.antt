@@ -7,7 +7,7 @@ use lib.Dec.{leb, eqb}
 use lib.IntN.{ℤ}
 use lib.ListN.{length}
 use Rattle.integers.specs.Sample.{signed}
-use Rattle.converter_spec.specs.Feeding.{over}
+use Rattle.bytes_spec.specs.Overwritten.{over}
 use Rattle.frames_spec.specs.declared.answers.DataLine.{DataLine}
 use Rattle.frames_spec.specs.Line.{Read, read, refused, refuseUnless, andThen, lineDigits, field, byteSum}
 
@@ -30,9 +30,9 @@ countLimit = 64
 abbrev pub sampleAt : List ℕ → ℕ → ℤ
 sampleAt ds i = signed (field (10 + i * 4) 4 ds)
 
-unfoldable pub samplesOf : ℕ → List ℕ → List ℤ
-samplesOf zero ds = []
-samplesOf (suc n) ds = samplesOf n ds ++ (sampleAt ds n ∷ [])
+unfoldable pub frameSamples : ℕ → List ℕ → List ℤ
+frameSamples zero ds = []
+frameSamples (suc n) ds = frameSamples n ds ++ (sampleAt ds n ∷ [])
 
 -- refusal 9 otherwise: "D: under 12, count 0 or above 64, or not 12 + 4 times count"
 unfoldable pub hasLength : List ℕ → Bool
@@ -46,7 +46,7 @@ checkHolds ds = eqb (byteSum ds % 256) 0
 unfoldable pub frameOf : ℕ → List ℕ → Read Frame
 frameOf space ds = refuseUnless (hasLength ds) 9
     (refuseUnless (checkHolds ds) 10
-    (refuseUnless (leb (countOf ds) space) 11 (read (record { sequence = sequenceOf ds; samples = samplesOf (countOf ds) ds }))))
+    (refuseUnless (leb (countOf ds) space) 11 (read (record { sequence = sequenceOf ds; samples = frameSamples (countOf ds) ds }))))
 
 -- of the line that bs begins with: 6, 7, 8, then 9, 10, 11. Byte 68 is `D`
 unfoldable pub dataLine : ℕ → List ℕ → Read Frame

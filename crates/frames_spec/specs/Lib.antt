@@ -1,3 +1,3 @@
 pub mod Line
 pub mod Frame
-pub mod Start
+pub mod StartLine

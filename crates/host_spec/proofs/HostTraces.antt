@@ -1,21 +1,25 @@
 -- What can be seen of an image: each list of arguments has one list of host calls that meets the contracts, and one only; and what `on-the-state` and `host-third` say of one feed. So
 -- neither statement is empty. Assumes nothing.
-use mathlib.Core.Path.{_≡_, refl, ap, _∙_}
+use mathlib.Core.Path.{_≡_, refl, ap, subst, _∙_}
 use mathlib.Core.Bool.{true, _&&_}
-use mathlib.Core.List.{List, [], _∷_, map, flatMap}
+use mathlib.Core.List.{List, [], _∷_, map}
 use Prim.Native.Nat.{ℕ, _^_, _<_}
+use lib.IntN.{ℤ}
 use lib.ListN.{length}
 use Rattle.oscillator_spec.specs.declared.settings.Setting.{Setting}
+use Rattle.converter_state.specs.declared.state.State.{State}
+use Rattle.converter_spec.specs.declared.feeding.Fed.{Fed}
+use Rattle.converter_state.specs.Start.{started}
 use Rattle.converter_spec.specs.Feeding.{FedRight}
 use Rattle.converter_spec.specs.Paper.{begin}
 use Rattle.converter_spec.specs.Demand.{Call, Seen, Agrees}
 use Rattle.converter_spec.specs.Demand as state
-use Rattle.host_spec.specs.Bytes.{Bytes, samplesOf}
-use Rattle.host_spec.specs.Image.{stateIn, isImage}
-use Rattle.host_spec.specs.Host.{hostStart, hostRetune, isBuffer, hostFeed}
-use Rattle.host_spec.specs.Calls.{HostCall, Meets, after, SeenOn, fedIn}
+use Rattle.bytes_spec.specs.Bytes.{Bytes, samplesOf}
+use Rattle.host_spec.specs.Image.{savedOf, stateIn, isImage}
+use Rattle.host_spec.specs.Host.{savedBy, hostStart, hostRetune, isBuffer, hostFeed}
+use Rattle.host_spec.specs.Calls.{HostCall, HostMeets, imageAfter, SeenOn, madeOf, Shows}
 use Rattle.host_spec.specs.Calls as host
-use Rattle.host_spec.proofs.Calls.{on-the-state, host-third}
+use Rattle.host_spec.proofs.ShownCalls.{on-the-state, host-third}
 
 -- a host call's arguments, and what the language knows of them
 pub data Asked : Type 0 where
@@ -41,42 +45,79 @@ call image (retune a) = host.retune a (hostRetune image a)
 
 unfoldable pub calls : List ℕ → List Asked → List HostCall
 calls image [] = []
-calls image (g ∷ gs) = call image g ∷ calls (after (call image g)) gs
+calls image (g ∷ gs) = call image g ∷ calls (imageAfter (call image g)) gs
 
-meets : (image : List ℕ) (g : Asked) → Given g → Meets image (call image g)
+meets : (image : List ℕ) (g : Asked) → Given g → HostMeets image (call image g)
 meets image (feed input old) b = (b, refl)
 meets image (retune a) b = refl
 
-only : (image : List ℕ) (c : HostCall) → Meets image c → c ≡ call image (asked c)
+only : (image : List ℕ) (c : HostCall) → HostMeets image c → c ≡ call image (asked c)
 only image (host.feed input old l) h = ap (host.feed input old) (h .1)
 only image (host.retune a l) h = ap (host.retune a) h
 
 pub seen-on : (image : List ℕ) (gs : List Asked) → AllGiven gs → SeenOn image (calls image gs)
 unfolding SeenOn calls AllGiven
 seen-on image [] b = tt
-seen-on image (g ∷ gs) b = (meets image g (b .0), seen-on (after (call image g)) gs (b .1))
+seen-on image (g ∷ gs) b = (meets image g (b .0), seen-on (imageAfter (call image g)) gs (b .1))
 
 pub seen-on-only : (image : List ℕ) (cs : List HostCall) → SeenOn image cs → cs ≡ calls image (map asked cs)
 unfolding SeenOn calls
 seen-on-only image [] h = refl
 seen-on-only image (c ∷ cs) h =
     let e = only image c (h .0) in
-    λ i. e i ∷ (seen-on-only (after c) cs (h .1) ∙ ap (λ d. calls (after d) (map asked cs)) e) i
+    λ i. e i ∷ (seen-on-only (imageAfter c) cs (h .1) ∙ ap (λ d. calls (imageAfter d) (map asked cs)) e) i
 
 -- ---- one feed, read off both statements: they speak of the feed, and of what it left
-module _ (input old : List ℕ) (b : Bytes input) (fits : isBuffer (length input) && isBuffer (length old) ≡ true) where
-  abbrev fed : List ℕ → Call
-  fed image = let l = hostFeed image input old in state.feed (samplesOf input) (samplesOf old) (fedIn (l .result) (l .image)) (samplesOf (l .output))
+-- the one call that is shown beside one feed
+pub record OneShown (s : State) (image input old : List ℕ) : Type 0 where
+  pub answer : Fed
+  pub left : List ℤ
+  pub right : FedRight s (samplesOf input) (samplesOf old) answer left
+  pub saved : savedOf (hostFeed image input old .image) ≡ savedBy answer
+  pub refusal : hostFeed image input old .result ≡ answer .refusal
+  pub output : samplesOf (hostFeed image input old .output) ≡ left
 
-  one : (image : List ℕ) → SeenOn image (host.feed input old (hostFeed image input old) ∷ [])
+module _ (input old : List ℕ) (b : Bytes input) (fits : isBuffer (length input) && isBuffer (length old) ≡ true) where
+  abbrev fed : List ℕ → HostCall
+  fed image = host.feed input old (hostFeed image input old)
+
+  one : (image : List ℕ) → SeenOn image (fed image ∷ [])
   unfolding SeenOn
   one image = ((b, refl), tt)
 
-  pub one-on-the-state : (image : List ℕ) → Bytes image → isImage image ≡ true
-      → let l = hostFeed image input old in FedRight (stateIn image) (samplesOf input) (samplesOf old) (fedIn (l .result) (l .image)) (samplesOf (l .output))
-  unfolding Seen flatMap
-  one-on-the-state image h i = let s = on-the-state image h i (host.feed input old (hostFeed image input old) ∷ []) (one image) in rw fits at s .0
+  only-made : (image : List ℕ) → madeOf (fed image ∷ []) ≡ fed image ∷ []
+  unfolding madeOf
+  only-made image = rw fits refl
 
-  pub one-agrees : (image : List ℕ) (k : ℕ) (a : Setting) (P : ℕ) → P < 2 ^ 32 → hostStart image k a P .result ≡ 0 → Agrees (begin k a P) (fed (hostStart image k a P .image) ∷ [])
-  unfolding flatMap
-  one-agrees image k a P l z = rw fits at (host-third image k a P l z (host.feed input old (hostFeed (hostStart image k a P .image) input old) ∷ []) (one (hostStart image k a P .image)))
+  -- what one call shows is a feed, and is all
+  read-off : {s : State} (image : List ℕ) (ds : List Call) → Seen s ds → Shows (fed image ∷ []) ds
+      → (t : OneShown s image input old) × (ds ≡ state.feed (samplesOf input) (samplesOf old) (t .answer) (t .left) ∷ [])
+  unfolding Seen Shows
+  read-off image [] h w = absurd w
+  read-off image (state.retune a r ∷ ds) h w = absurd (w .0)
+  read-off image (state.feed xs ys f left ∷ (d ∷ ds)) h w = absurd (w .1)
+  read-off {s} image (state.feed xs ys f left ∷ []) h w =
+      let v = w .0 in (
+        record {
+          answer = f;
+          left = left;
+          right = subst (λ zs. FedRight s zs (samplesOf old) f left) (v .taken-from) (subst (λ zs. FedRight s xs zs f left) (v .before) (h .0));
+          saved = v .saved;
+          refusal = v .refusal;
+          output = v .after;
+        },
+        λ i. state.feed (v .taken-from i) (v .before i) f left ∷ [],
+      )
+
+  pub one-on-the-state : (image : List ℕ) → Bytes image → isImage image ≡ true → OneShown (stateIn image) image input old
+  one-on-the-state image h i =
+      let t = on-the-state image h i (fed image ∷ []) (one image) in
+      read-off image (t .calls) (t .seen) (rw (only-made image) at (t .shows)) .0
+
+  pub one-agrees : (image : List ℕ) (k : ℕ) (a : Setting) (P : ℕ) → P < 2 ^ 32 → hostStart image k a P .result ≡ 0
+      → (t : OneShown (started k a P .state) (hostStart image k a P .image) input old) × Agrees (begin k a P) (state.feed (samplesOf input) (samplesOf old) (t .answer) (t .left) ∷ [])
+  one-agrees image k a P l z =
+      let from = hostStart image k a P .image in
+      let t = host-third image k a P l z (fed from ∷ []) (one from) in
+      let r = read-off from (t .0 .calls) (t .0 .seen) (rw (only-made from) at (t .0 .shows)) in
+      (r .0, subst (Agrees (begin k a P)) (r .1) (t .1))

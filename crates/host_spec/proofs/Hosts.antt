@@ -10,11 +10,11 @@ use lib.ListN.{length, take, drop}
 use Rattle.integers.specs.Table.{both}
 use Rattle.oscillator_spec.specs.declared.settings.Setting.{Setting}
 use Rattle.oscillator_spec.specs.Word.{word, wordOf}
-use Rattle.converter_spec.specs.declared.state.Retuned.{Retuned}
-use Rattle.converter_spec.specs.Start.{started, retuned}
-use Rattle.converter_spec.proofs.States.{retune-word}
-use Rattle.host_spec.specs.Bytes.{Bytes, bytesOf}
-use Rattle.host_spec.specs.Image.{imageOf, savedOf, stateIn, isForty, isImage}
+use Rattle.converter_state.specs.declared.state.Retuned.{Retuned}
+use Rattle.converter_state.specs.Start.{started, retuned}
+use Rattle.converter_state.proofs.States.{retune-word}
+use Rattle.bytes_spec.specs.Bytes.{Bytes, bytesOf}
+use Rattle.host_spec.specs.Image.{wordPlace, windowPlace, imageOf, savedOf, stateIn, hasImageLength, isImage}
 use Rattle.host_spec.specs.Host.{accepting, reply, uncounted, hostStart, withState, hostRetune, isBuffer, feedReply, imageFed, outputFed, hostFeed}
 use Rattle.host_spec.proofs.Images.{is-image, word-bytes}
 
@@ -31,11 +31,11 @@ module _ (image : List ℕ) (k : ℕ) (a : Setting) (p : ℕ) where
   unfolding hostStart
   start-refused n e h = let z = ne-eqb n 0 h in rw (e, z, z)
 
-  pub start-short : started k a p .refusal ≡ 0 → isForty image ≡ false → hostStart image k a p ≡ reply 5 image
+  pub start-short : started k a p .refusal ≡ 0 → hasImageLength image ≡ false → hostStart image k a p ≡ reply 5 image
   unfolding hostStart
   start-short e h = rw (e, h)
 
-  pub start-done : started k a p .refusal ≡ 0 → isForty image ≡ true → hostStart image k a p ≡ reply 0 begun
+  pub start-done : started k a p .refusal ≡ 0 → hasImageLength image ≡ true → hostStart image k a p ≡ reply 0 begun
   unfolding hostStart
   start-done e h = rw (e, h)
 
@@ -66,7 +66,7 @@ module _ (image : List ℕ) (a : Setting) where
   refused-retune h = keeps _ tuned image h
 
   -- accepted, it replaces the eight bytes of the word and no others
-  pub retuned-bytes : (w : ℕ) → Bytes image → isImage image ≡ true → wordOf a ≡ word w → hostRetune image a ≡ reply 0 (take 8 image ++ (bytesOf 8 w ++ drop 16 image))
+  pub retuned-bytes : (w : ℕ) → Bytes image → isImage image ≡ true → wordOf a ≡ word w → hostRetune image a ≡ reply 0 (take wordPlace image ++ (bytesOf 8 w ++ drop windowPlace image))
   retuned-bytes w b h e =
       let r = retune-word (stateIn image) a w (is-image image h .2) e .0 in
       let new = ap (λ (t : Retuned). imageOf (withState (savedOf image) (t .state))) r ∙ word-bytes image b h w in

@@ -11,24 +11,24 @@ use Rattle.integers.specs.Machine.{i-fits}
 use Rattle.kernels_spec.specs.Kernel.{kernelOf}
 use Rattle.kernels_spec.specs.Value.{outputOf, windowAt, filterFraction}
 use Rattle.kernels_spec.proofs.Card.{output-fits}
-use Rattle.converter_spec.specs.declared.state.State.{State}
+use Rattle.converter_state.specs.declared.state.State.{State}
 use Rattle.converter_spec.specs.Feeding.{outputNext, advanced, taking, rule}
-use Rattle.converter_spec.proofs.Turns.{rule-ind}
-use Rattle.host_spec.proofs.Samples.{Samples}
+use Rattle.converter_spec.proofs.RuleSteps.{rule-ind}
+use Rattle.bytes_spec.proofs.Samples.{AreSamples}
 
 -- a state whose window is four samples
 pub record Four (s : State) : Type 0 where
   pub four : length (s .window) ≡ 4
-  pub window : Samples (s .window)
+  pub window : AreSamples (s .window)
 
 -- ---- a sample taken comes last, and the oldest goes
-samples-last : (xs : List ℤ) (x : ℤ) → Samples xs → SFits w16 x → Samples (xs ++ (x ∷ []))
-unfolding Samples
+samples-last : (xs : List ℤ) (x : ℤ) → AreSamples xs → SFits w16 x → AreSamples (xs ++ (x ∷ []))
+unfolding AreSamples
 samples-last [] x h f = (f, tt)
 samples-last (y ∷ xs) x h f = (h .0, samples-last xs x (h .1) f)
 
-samples-rest : (xs : List ℤ) → Samples xs → Samples (drop 1 xs)
-unfolding Samples
+samples-rest : (xs : List ℤ) → AreSamples xs → AreSamples (drop 1 xs)
+unfolding AreSamples
 samples-rest [] h = tt
 samples-rest (x ∷ xs) h = h .1
 
@@ -49,10 +49,10 @@ unfolding outputOf
 output-sample s = i-fits (output-fits (kernelOf (s .kernel)) (windowAt (kernelOf (s .kernel)) (s .window)) (filterFraction (kernelOf (s .kernel)) (s .register))) tt
 
 -- ---- a run
-pub rule-four : (xs : List ℤ) (n : ℕ) (s : State) → Samples xs → Four s → Four (rule xs n s .state) × Samples (rule xs n s .outputs)
-unfolding Samples
+pub rule-four : (xs : List ℤ) (n : ℕ) (s : State) → AreSamples xs → Four s → Four (rule xs n s .state) × AreSamples (rule xs n s .outputs)
+unfolding AreSamples
 rule-four =
-    rule-ind (λ xs n s r. Samples xs → Four s → Four (r .state) × Samples (r .outputs))
+    rule-ind (λ xs n s r. AreSamples xs → Four s → Four (r .state) × AreSamples (r .outputs))
     (λ xs s e h f. (f, tt))
     (λ xs n s r e i h f. let z = i h (four-advanced s f) in (z .0, (output-sample s, z .1)))
     (λ n k s e h f. (f, tt))

@@ -6,12 +6,17 @@ use Prim.Native.Nat.{ℕ, _/_, _%_}
 use lib.Dec.{leb, eqb}
 use lib.ListN.{length}
 use Rattle.oscillator_spec.specs.declared.settings.Setting.{Setting}
-use Rattle.converter_spec.specs.declared.state.State.{State}
-use Rattle.converter_spec.specs.Start.{started, retuned}
-use Rattle.converter_spec.specs.Feeding.{HUNGRY, Answer, fedOf, outputsOf, over}
-use Rattle.host_spec.specs.declared.image.Saved.{Saved}
-use Rattle.host_spec.specs.Bytes.{samplesOf, pairsOf}
-use Rattle.host_spec.specs.Image.{imageOf, savedOf, stateIn, isForty, isImage}
+use Rattle.kernels_spec.specs.Clips.{total}
+use Rattle.converter_state.specs.declared.state.State.{State}
+use Rattle.converter_spec.specs.declared.feeding.Fed.{Fed}
+use Rattle.converter_spec.specs.declared.feeding.Counts.{Counts}
+use Rattle.converter_state.specs.Start.{started, retuned}
+use Rattle.bytes_spec.specs.Overwritten.{over}
+use Rattle.converter_spec.specs.Feeding.{HUNGRY, endNumber, noCounts, fedOf, outputsOf}
+use Rattle.host_spec.specs.declared.saved.Saved.{Saved}
+use Rattle.host_spec.specs.declared.saved.Shown.{Shown}
+use Rattle.bytes_spec.specs.Bytes.{samplesOf, pairsOf}
+use Rattle.host_spec.specs.Image.{imageOf, savedOf, stateIn, hasImageLength, isImage}
 
 -- "No refused call changes a buffer" (demand 1): what a buffer holds after a call that returned n, `new` where it was accepted, and else what it held
 abbrev pub accepting : ℕ → List ℕ → List ℕ → List ℕ
@@ -30,19 +35,23 @@ pub record Reply : Type 0 where
 abbrev pub reply : ℕ → List ℕ → Reply
 reply r bs = record { result = r; image = bs }
 
+-- what an image shows of counts: "taken, written, clips, and 0 for HUNGRY or 1 for FULL"
+abbrev pub shownOf : Counts → Shown
+shownOf c = record { taken = c .taken; written = c .written; clips = total (c .clips); end = endNumber (c .end) }
+
 -- a state with no counts, as after a feed that did nothing
 abbrev pub uncounted : State → Saved
-uncounted s = record { state = s; taken = 0; written = 0; clips = 0; end = HUNGRY }
+uncounted s = record { state = s; shown = shownOf (noCounts HUNGRY) }
 
--- "The lowest that applies is returned": 1 to 4, then 5 where the image is not 40 bytes
+-- "The lowest that applies is returned": 1 to 4, then 5 where the image has another length
 unfoldable pub hostStart : List ℕ → ℕ → Setting → ℕ → Reply
 hostStart image k a p =
-    let n : ℕ = firstRefusal (started k a p .refusal) (cond (isForty image) 0 5) in
+    let n : ℕ = firstRefusal (started k a p .refusal) (cond (hasImageLength image) 0 5) in
     reply n (accepting n (imageOf (uncounted (started k a p .state))) image)
 
 -- "Retune replaces the word only": the counts stay
 abbrev pub withState : Saved → State → Saved
-withState v s = record { state = s; taken = v .taken; written = v .written; clips = v .clips; end = v .end }
+withState v s = record { state = s; shown = v .shown }
 
 -- "retune tests 5 first"
 unfoldable pub hostRetune : List ℕ → Setting → Reply
@@ -66,8 +75,8 @@ abbrev pub feedReply : ℕ → List ℕ → List ℕ → FeedReply
 feedReply r bs ys = record { result = r; image = bs; output = ys }
 
 -- "when accepted, writes the whole image anew": what feed answers over the samples of the input
-abbrev pub savedBy : Answer → Saved
-savedBy a = record { state = a .state; taken = a .taken; written = a .written; clips = a .clips; end = a .end }
+abbrev pub savedBy : Fed → Saved
+savedBy f = record { state = f .state; shown = shownOf (f .counts) }
 
 unfoldable pub imageFed : List ℕ → List ℕ → List ℕ → List ℕ
 imageFed image input output = imageOf (savedBy (fedOf (stateIn image) (samplesOf input) (length output / 2)))

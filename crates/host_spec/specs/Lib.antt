@@ -1,4 +1,3 @@
-pub mod Bytes
 pub mod Image
 pub mod Host
 pub mod Calls

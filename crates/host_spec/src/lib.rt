@@ -1,5 +1,6 @@
-// The C host's side: a state saved in 40 bytes, samples as byte pairs, and what each host call returns and leaves. Definitions stand in specs/, with demand 3 for lists of host calls,
-// their laws in proofs/; the functions are those of `resampler`.
-mod image;
+// The C host's side: a state saved in an image, and what each host call returns and leaves. Definitions stand in specs/, with demand 3 for lists of host calls,
+// their laws in proofs/; the functions are those of `host` and `resampler`.
+mod saved;
 
-pub use image::Saved;
+pub use saved::Saved;
+pub use saved::Shown;

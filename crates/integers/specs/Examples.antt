@@ -15,7 +15,7 @@ use Rattle.integers.specs.Order.{ωℤ, nn-sq, nn-sub, nn-add, nn-mul}
 use Rattle.integers.specs.Inequality.{by-nn, goal≤, hyp≤}
 use Rattle.integers.specs.Floor.{floorDiv, roundDiv, floor-eq, floor-bias, round-is}
 use Rattle.integers.specs.Within.{Within, w-add, w-mul}
-use Rattle.integers.specs.Range.{_∈_, _to_, ±_, i-mul, w-in}
+use Rattle.integers.specs.Range.{_within_, _to_, ±_, i-mul, w-in}
 use Rattle.integers.specs.Machine.{Known, none, _&_, safe, fits, gives, computed, stored}
 use Rattle.integers.specs.Operations.{Reads, reads, r-shr, r-cast}
 use Rattle.integers.specs.Table.{every-at}
@@ -95,7 +95,7 @@ size : {A B C : ℕ} {x y z : ℤ} → Within A x → Within B y → Within C z 
 size a b c = w-add (w-mul a b) c
 
 -- Range
-product : {x y : ℤ} → x ∈ (negsuc 3 to pos 2) → y ∈ (± 5) → (x *ℤ y) ∈ (negsuc 19 to pos 20)
+product : {x y : ℤ} → x within (negsuc 3 to pos 2) → y within (± 5) → (x *ℤ y) within (negsuc 19 to pos 20)
 product h k = i-mul {r = negsuc 3 to pos 2} {s = ± 5} h k
 
 -- Machine

@@ -19,7 +19,7 @@ use mir.Val.{SFits, hbits, toZ, ofZ}
 use mir.Facts.{toZ-ofZ, and-yes}
 use Rattle.integers.specs.Ring.{Expr, var, loc, cast, lit, neg, _:+_, _:-_, _:*_, _:=_, Check, at, eval, ring}
 use Rattle.integers.specs.Order.{ωℤ, ≤ω}
-use Rattle.integers.specs.Range.{In, Interval, _∈_, _to_, addI, subI, negI, mulI, i-lit, i-add, i-sub, i-neg, i-mul}
+use Rattle.integers.specs.Range.{In, Interval, _within_, _to_, addI, subI, negI, mulI, i-lit, i-add, i-sub, i-neg, i-mul}
 
 -- ---- what the machine has: each operation reads its operands from bits
 -- z written as 64 bits, and read back
@@ -76,12 +76,12 @@ safe β (e :- f) = roomFor w64 (range β (e :- f)) && (safe β e && safe β f)
 safe β (e :* f) = roomFor w64 (range β (e :* f)) && (safe β e && safe β f)
 safe β (neg e) = roomFor w64 (range β (neg e)) && safe β e
 
-pub i-fits : {w : Width} {r : Interval} {z : ℤ} → z ∈ r → T (roomFor w r) → SFits w z
+pub i-fits : {w : Width} {r : Interval} {z : ℤ} → z within r → T (roomFor w r) → SFits w z
 i-fits {w} {r} {z} h t =
     let b = and-yes (ltZ (negsuc (2 ^ hbits w)) (r .lo)) (ltZ (r .hi) (pos (2 ^ hbits w))) t in
     go z h (ltZ-yes (b .0)) (ltZ-yes (b .1))
   where
-    go : (z : ℤ) → z ∈ r → negsuc (2 ^ hbits w) <ℤ r .lo → r .hi <ℤ pos (2 ^ hbits w) → SFits w z
+    go : (z : ℤ) → z within r → negsuc (2 ^ hbits w) <ℤ r .lo → r .hi <ℤ pos (2 ^ hbits w) → SFits w z
     go (pos n) h l k = record { sfits = omega (ωℤ, h .high) }
     go (negsuc n) h l k = record { sfits = omega (ωℤ, h .low) }
 
@@ -96,7 +96,7 @@ pub data Known : List ℤ → List Interval → Type 0 where
   none : Known [] []
   _&_ : {a b x : ℤ} {ρ : List ℤ} {β : List Interval} → In a b x → Known ρ β → Known (x ∷ ρ) ((a to b) ∷ β)
 
-at-in : {ρ : List ℤ} {β : List Interval} → Known ρ β → (i : ℕ) → at ρ i ∈ atI β i
+at-in : {ρ : List ℤ} {β : List Interval} → Known ρ β → (i : ℕ) → at ρ i within atI β i
 at-in none i = i-lit (pos 0)
 at-in (p & h) zero = p
 at-in (p & h) (suc i) = at-in h i
@@ -118,7 +118,7 @@ two b β e f t = and-yes (safe β e) (safe β f) (and-yes b (safe β e && safe �
 
 module _ {ρ : List ℤ} {β : List Interval} (h : Known ρ β) where
   -- the value of e is in its range
-  pub inside : (e : Expr) → eval ρ e ∈ range β e
+  pub inside : (e : Expr) → eval ρ e within range β e
   inside (var i) = at-in h i
   inside (loc i) = at-in h i
   inside (cast w i) = at-in h i

@@ -21,18 +21,18 @@ use denote.Signed.{SInt}
 use Rattle.integers.specs.Ring.{Expr, eval}
 use Rattle.integers.specs.Order.{ωℤ, ≤ℤ-trans, lt-or-le, nn-pos}
 use Rattle.integers.specs.Floor.{floorDiv, shr-floor, quot-floor}
-use Rattle.integers.specs.Range.{In, Interval, _∈_, _to_, i-lit, i-floor}
+use Rattle.integers.specs.Range.{In, Interval, _within_, _to_, i-lit, i-floor}
 use Rattle.integers.specs.Machine.{stored, computed, range, safe, roomFor, Known, inside, computes, i-fits}
 
 pub record Reads (t z : ℤ) (r : Interval) : Type 0 where
   pub same : t ≡ z
-  pub inside : z ∈ r
+  pub inside : z within r
 
 -- ---- to and from the environments of Machine
 pub reads : {ρ : List ℤ} {β : List Interval} → Known ρ β → (e : Expr) → T (safe β e) → Reads (computed ρ e) (eval ρ e) (range β e)
 reads h e t = record { same = computes h e t; inside = inside h e }
 
-pub r-val : {z : ℤ} {r : Interval} → z ∈ r → Reads z z r
+pub r-val : {z : ℤ} {r : Interval} → z within r → Reads z z r
 r-val h = record { same = refl; inside = h }
 
 pub r-in : {t z a b : ℤ} → Reads t z (a to b) → In a b t

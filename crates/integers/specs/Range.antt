@@ -1,6 +1,6 @@
 -- Ranges lo ≤ z ≤ hi, and the range of a sum, a difference, a negation, a product and a quotient. Assumes nothing.
 --
---     i-mul x-in y-in : (x *ℤ y) ∈ mulI ((negsuc 3) to (pos 2)) (± 5)      from  x-in : x ∈ ((negsuc 3) to (pos 2)),  y-in : y ∈ (± 5)
+--     i-mul x-in y-in : (x *ℤ y) within mulI ((negsuc 3) to (pos 2)) (± 5)      from  x-in : x within ((negsuc 3) to (pos 2)),  y-in : y within (± 5)
 -- and `mulI ..` computes, to (negsuc 19) to (pos 20). Machine uses these to show that every step of a polynomial fits its type.
 use mathlib.Core.Path.{_≡_, refl, sym, subst}
 use mathlib.Core.Bool.{Bool, true, false, cond}
@@ -25,11 +25,11 @@ pub record Interval : Type 0 where
   pub lo : ℤ
   pub hi : ℤ
 
-infix 50 _∈_
+infix 50 _within_
 infix 90 _to_ ±_
 -- z is in the range r
-abbrev pub _∈_ : ℤ → Interval → Type 0
-_∈_ z r = In (r .lo) (r .hi) z
+abbrev pub _within_ : ℤ → Interval → Type 0
+z within r = In (r .lo) (r .hi) z
 
 abbrev pub _to_ : ℤ → ℤ → Interval
 a to b = record { lo = a; hi = b }
@@ -115,23 +115,23 @@ mulI r s =
       hi = maxZ (maxZ (r .lo *ℤ s .lo) (r .lo *ℤ s .hi)) (maxZ (r .hi *ℤ s .lo) (r .hi *ℤ s .hi));
     }
 
-pub i-lit : (z : ℤ) → z ∈ (z to z)
+pub i-lit : (z : ℤ) → z within (z to z)
 i-lit z = record { low = ≤ℤ-refl z; high = ≤ℤ-refl z }
 
-pub i-add : {r s : Interval} {x y : ℤ} → x ∈ r → y ∈ s → (x +ℤ y) ∈ addI r s
+pub i-add : {r s : Interval} {x y : ℤ} → x within r → y within s → (x +ℤ y) within addI r s
 i-add {r} {s} {x} {y} h k =
     let e = ω-add x y in
     record { low = omega (ωℤ, h .low, k .low, ω-add (r .lo) (s .lo)); high = omega (ωℤ, h .high, k .high, ω-add (r .hi) (s .hi)) }
 
-pub i-neg : {r : Interval} {x : ℤ} → x ∈ r → negℤ x ∈ negI r
+pub i-neg : {r : Interval} {x : ℤ} → x within r → negℤ x within negI r
 i-neg {r} {x} h = record { low = omega (ωℤ, h .high, ω-neg x, ω-neg (r .hi)); high = omega (ωℤ, h .low, ω-neg x, ω-neg (r .lo)) }
 
-pub i-sub : {r s : Interval} {x y : ℤ} → x ∈ r → y ∈ s → (x -ℤ y) ∈ subI r s
+pub i-sub : {r s : Interval} {x y : ℤ} → x within r → y within s → (x -ℤ y) within subI r s
 i-sub {r} {s} {x} {y} h k =
     let e = ω-minus x y in
     record { low = omega (ωℤ, h .low, k .high, ω-minus (r .lo) (s .hi)); high = omega (ωℤ, h .high, k .low, ω-minus (r .hi) (s .lo)) }
 
-pub i-mul : {r s : Interval} {x y : ℤ} → x ∈ r → y ∈ s → (x *ℤ y) ∈ mulI r s
+pub i-mul : {r s : Interval} {x y : ℤ} → x within r → y within s → (x *ℤ y) within mulI r s
 i-mul {r} {s} {x} {y} h k =
     let ll : ℤ = r .lo *ℤ s .lo in
     let lh : ℤ = r .lo *ℤ s .hi in

@@ -26,8 +26,8 @@ pub fn bits(x: i16) -> u16
     x as u16
 }
 
-// The whole number nearest to the mean of two samples, halves upward: the worked example of docs/PROOFS.md.
-pub fn midpoint(a: i16, b: i16) -> i16
+// The whole number nearest to the mean of two samples, halves upward: the worked example of docs/PROOFS.md, which nothing exports.
+fn midpoint(a: i16, b: i16) -> i16
     ensures { λ r. ⌜ r ≡ roundDiv (a +ℤ b) 2 ⌝ }
 {
     let x = a as i64;

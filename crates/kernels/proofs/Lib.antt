@@ -1,4 +1,4 @@
-mod Table
+mod CoefficientTable
 mod Scales
 mod Mean
 pub mod Sizes

@@ -14,7 +14,7 @@ use Rattle.oscillator_spec.proofs.Positions.{fourteen-before}
 use Rattle.kernels_spec.specs.Kernel.{Samples, kernelOf}
 use Rattle.kernels_spec.specs.Value.{column, polynomial, numerator, unit, rounded, filterFraction}
 use Rattle.kernels_spec.proofs.Rows.{numeratorE}
-use Rattle.kernels_spec.proofs.Whole.{whole-mono, whole-exact}
+use Rattle.kernels_spec.proofs.NearestWhole.{whole-mono, whole-exact}
 
 module _ (x : Samples) (m l : ℤ) (h : In (pos 0) (pos (2 ^ 14)) m) where
   abbrev ρ : List ℤ

@@ -14,8 +14,8 @@ use Rattle.kernels_spec.specs.Kernel.{Samples, four, Kernel, kernelOf}
 use Rattle.kernels_spec.specs.Value.{column, polynomial, numerator, unit, nearestWhole}
 use Rattle.kernels.specs.Scale.{spare, weight, largestNumerator}
 use Rattle.kernels_spec.proofs.Rows.{of-all}
-use Rattle.kernels_spec.proofs.Whole.{whole-scale}
-use Rattle.kernels.proofs.Table.{every-four, one-of-four}
+use Rattle.kernels_spec.proofs.NearestWhole.{whole-scale}
+use Rattle.kernels.proofs.CoefficientTable.{every-four, one-of-four}
 
 -- ---- by kernel number: its degree, what is spared, and the unit that rounding what the code has is over
 pub record Scaled (k degree left own : ℕ) : Type 0 where

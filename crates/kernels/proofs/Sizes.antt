@@ -12,7 +12,7 @@ use Rattle.kernels_spec.specs.Kernel.{Samples, places, Kernel, kernelOf}
 use Rattle.kernels_spec.specs.Value.{column, windowAt, filterFraction, numeratorOf}
 use Rattle.kernels.specs.Scale.{weight, largestNumerator}
 use Rattle.kernels_spec.proofs.Numbers.{fraction-within}
-use Rattle.kernels.proofs.Table.{column-within}
+use Rattle.kernels.proofs.CoefficientTable.{column-within}
 use Rattle.kernels.proofs.Scales.{numerator-by, polynomial-within}
 
 -- Of a window of samples no numerator is above 38·2^57 in size, so that i64 has room for a sample times the unit (at most 6·2^57) beside it

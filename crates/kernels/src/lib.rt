@@ -1,7 +1,12 @@
 // The interpolator: one coefficient table, the exact value of a kernel as a numerator, and the output, rounded once and held to 16 bits. The contracts cite the definitions of `kernels_spec`.
+mod clips;
 mod filter;
 mod output;
 
+pub use clips::add_clips;
+pub use clips::is_none;
+pub use clips::no_clips;
+pub use clips::total_clips;
 pub use filter::filter_fraction;
 pub use filter::nearest;
 pub use filter::numerator;

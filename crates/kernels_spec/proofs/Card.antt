@@ -1,7 +1,7 @@
 -- What ties the card's register and window to a position over joined samples: `evaluate` gives the value of demand 2. The converter cites these laws. Assumes nothing.
 use mathlib.Core.Path.{_≡_, refl, sym, _∙_, ap}
 use mathlib.Core.List.{List, [], _∷_, _++_}
-use Prim.Native.Nat.{ℕ, suc, _+_, _-_, _<_}
+use Prim.Native.Nat.{ℕ, suc, _+_, _-_, _≤_, _<_}
 use native.Mathlib.Omega.{arith}
 use native.Mathlib.Nat.{add-zero, add-suc}
 use lib.IntN.{ℤ, pos}
@@ -12,9 +12,11 @@ use Rattle.oscillator_spec.specs.Position.{basepoint, fraction, fourteenBits}
 use Rattle.oscillator_spec.specs.Register.{registerOf}
 use Rattle.oscillator_spec.proofs.Positions.{fraction-register}
 use Rattle.kernels_spec.specs.Kernel.{Samples, places, Kernel, kernelOf, Agree}
+use Rattle.kernels_spec.specs.Clips.{total}
 use Rattle.kernels_spec.specs.Value.{rounded, output, clips, joinedAt, newest, windowAt, filterFraction, value, valueClips, outputOf, clipOf}
 use Rattle.kernels_spec.specs.Distance.{CloseAt}
-use Rattle.kernels_spec.proofs.Hold.{held-fits}
+use Rattle.kernels_spec.specs.Demand2.{Second}
+use Rattle.kernels_spec.proofs.Hold.{held-fits, clips-most}
 use Rattle.kernels_spec.proofs.Rows.{output-named, clips-named, close-named, reach-most, named-in-reach}
 
 -- ---- joined samples: x0, x1 and x2 are samples b, b + 1 and b + 2; xm is the one before b, and zero before the first
@@ -100,7 +102,16 @@ module _ (k : ℕ) (xs : List ℤ) (q : ℕ) (h : length xs ≡ basepoint (kerne
   unfolding clipOf valueClips
   card-clip = clips-named k alike (filterFraction κ′ (registerOf q)) ∙ ap (clips κ′ around) (fraction-card κ′ q)
 
+-- ---- an output counts as one clip at the most
+pub clip-most : (κ : Kernel) (register : ℕ) (window : List ℤ) → total (clipOf κ register window) ≤ 1
+unfolding clipOf clips
+clip-most κ register window = clips-most (rounded κ (windowAt κ window) (filterFraction κ register))
+
 -- ---- every output is a sample
 pub output-fits : (κ : Kernel) (x : Samples) (m : ℤ) → IsSample (output κ x m)
 unfolding output
 output-fits κ x m = held-fits (rounded κ x m)
+
+-- ---- demand 2 of one output
+pub second : Second
+second k xs q h = record { output = card-output k xs q h; clip = card-clip k xs q h }

@@ -13,8 +13,9 @@ use Rattle.integers.specs.Within.{Within, abs-mul, w-lit, w-sub, w-mul, w-weake
 use Rattle.oscillator_spec.specs.Position.{basepoint, fraction}
 use Rattle.kernels_spec.specs.Kernel.{Samples, Kernel, kernelOf}
 use Rattle.kernels_spec.specs.Value.{numerator, unit, rounded, held, output, paper, joinedAt, filterFraction, value}
+use Rattle.kernels_spec.specs.Demand2.{NearPaper}
 use Rattle.kernels_spec.specs.Distance.{jump, Close, CloseAt}
-use Rattle.kernels_spec.proofs.Whole.{whole-half}
+use Rattle.kernels_spec.proofs.NearestWhole.{whole-half}
 use Rattle.kernels_spec.proofs.Hold.{held-in, held-low, held-high, held-apart, held-times}
 use Rattle.kernels_spec.proofs.Rows.{denominator-pos}
 use Rattle.kernels_spec.proofs.Near.{near}
@@ -90,3 +91,6 @@ module _ (k : ℕ) (x : Samples) (q : ℕ) where
 pub value-close : (k : ℕ) (xs : List ℤ) (q : ℕ) → CloseAt (kernelOf k) xs q (value (kernelOf k) xs q)
 unfolding CloseAt value
 value-close k xs q = output-close k (joinedAt xs (basepoint (kernelOf k .nearest) q)) q
+
+pub near-paper : NearPaper
+near-paper = value-close

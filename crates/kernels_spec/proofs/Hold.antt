@@ -1,8 +1,9 @@
 -- Holding to 16 bits: it moves no two numbers further apart, goes with a factor, and changes exactly the numbers that count as clips. Assumes nothing.
 use mathlib.Core.Path.{_≡_, refl, sym, _∙_, ap, subst}
-use mathlib.Core.Bool.{Bool, true, false, not, _||_}
+use mathlib.Core.Bool.{Bool, true, false, cond, not, _||_}
 use mathlib.Core.Logic.{_≢_}
-use Prim.Native.Nat.{ℕ}
+use Prim.Native.Nat.{ℕ, _≤_}
+use native.Mathlib.Omega.{arith}
 use lib.Dec.{T}
 use lib.IntN.{ℤ, pos, negℤ, natAbs, _+ℤ_, _-ℤ_, _*ℤ_}
 use lib.Signed.{_≤ℤ_, _<ℤ_, ltZ, leZ-yes, ltZ-yes, ltZ-no, clashℤ}
@@ -11,7 +12,9 @@ use Rattle.integers.specs.Order.{ωℤ, ≤ℤ-trans, ≤ℤ-antisym, *ℤ-mono
 use Rattle.integers.specs.Within.{Within, w-between, abs-is}
 use Rattle.integers.specs.Range.{In, minZ, maxZ, min-max}
 use Rattle.integers.specs.Sample.{IsSample}
-use Rattle.kernels_spec.specs.Value.{held, outside}
+use Rattle.kernels_spec.specs.Clips.{noClips, oneClip, total}
+use Rattle.kernels_spec.specs.Value.{held, outside, clipsOf}
+use Rattle.kernels_spec.proofs.Counting.{total-none, total-one}
 
 -- ---- what is held, at any scale: a number between the limits, one below, one above
 module _ (S : ℕ) where
@@ -57,6 +60,27 @@ outside-low {z} h = sides z (λ b. b ≡ true) (λ l. refl) (λ l. refl) (λ i. 
 
 pub outside-high : {z : ℤ} → pos 32767 <ℤ z → outside z ≡ true
 outside-high {z} h = sides z (λ b. b ≡ true) (λ l. refl) (λ l. refl) (λ i. clashℤ h (i .high))
+
+-- the clip that a value counts as: none inside, one outside
+pub clips-in : {z : ℤ} → IsSample z → clipsOf z ≡ noClips
+unfolding clipsOf
+clips-in h = ap (λ b. cond b oneClip noClips) (outside-in h)
+
+pub clips-low : {z : ℤ} → z <ℤ negℤ (pos 32768) → clipsOf z ≡ oneClip
+unfolding clipsOf
+clips-low h = ap (λ b. cond b oneClip noClips) (outside-low h)
+
+pub clips-high : {z : ℤ} → pos 32767 <ℤ z → clipsOf z ≡ oneClip
+unfolding clipsOf
+clips-high h = ap (λ b. cond b oneClip noClips) (outside-high h)
+
+pub clips-most : (z : ℤ) → total (clipsOf z) ≤ 1
+unfolding clipsOf
+clips-most z = go (outside z)
+  where
+    go : (b : Bool) → total (cond b oneClip noClips) ≤ 1
+    go true = omega (arith, total-one)
+    go false = omega (arith, total-none)
 
 -- in 16 bits always, and another number exactly where it counts as a clip
 pub held-fits : (z : ℤ) → IsSample (held 1 z)

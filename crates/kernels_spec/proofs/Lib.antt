@@ -1,8 +1,9 @@
 pub mod Formulas
 pub mod Rows
 pub mod Numbers
-pub mod Whole
+pub mod NearestWhole
 pub mod Hold
+pub mod Counting
 pub mod Card
 pub mod Near
 pub mod Close

@@ -11,7 +11,7 @@ use lib.Dec.{T, leb, ltb, leb→le, ltb→lt}
 use lib.IntN.{ℤ, pos, natAbs, _-ℤ_, _*ℤ_}
 use Rattle.integers.specs.Ring.{Expr, var, lit, _:+_, _:*_, Eqn, _:=_, Check, Holds, at, eval, ring}
 use Rattle.kernels_spec.specs.Kernel.{Samples, four, Kernel, kernelOf, names, Agree}
-use Rattle.kernels_spec.specs.Value.{column, polynomial, numerator, unit, rounded, held, output, outside, clips, paper}
+use Rattle.kernels_spec.specs.Value.{column, polynomial, numerator, unit, rounded, held, output, clipsOf, clips, paper}
 use Rattle.kernels_spec.specs.Distance.{gap, jump, Close}
 
 -- what holds of the four holds of the kernel with any number
@@ -143,7 +143,7 @@ module _ (k : ℕ) {x y : Samples} (h : Agree (kernelOf k) x y) where
 
   pub clips-named : (m : ℤ) → clips (kernelOf k) x m ≡ clips (kernelOf k) y m
   unfolding clips
-  clips-named m = ap outside (rounded-named m)
+  clips-named m = ap clipsOf (rounded-named m)
 
   pub paper-named : (f : ℤ) → paper (kernelOf k) x f ≡ paper (kernelOf k) y f
   unfolding paper

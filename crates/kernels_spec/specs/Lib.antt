@@ -1,3 +1,5 @@
 pub mod Kernel
+pub mod Clips
 pub mod Value
 pub mod Distance
+pub mod Demand2

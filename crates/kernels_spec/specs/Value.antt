@@ -1,7 +1,7 @@
 -- The exact value of a kernel, the card's output and the paper's value (document 01, "Kernels"). Definitions only.
 --
 -- Every value is a whole number over `unit`: one formula serves the card, at u = m/2^14, and the paper, at u = f/2^32.
-use mathlib.Core.Bool.{Bool, _||_}
+use mathlib.Core.Bool.{Bool, cond, _||_}
 use mathlib.Core.List.{List, _∷_}
 use Prim.Native.Nat.{ℕ, _+_, _-_, _*_, _^_}
 use lib.IntN.{ℤ, pos, negℤ, _+ℤ_, _*ℤ_}
@@ -10,7 +10,9 @@ use lib.Signed.{ltZ}
 use Rattle.integers.specs.Floor.{roundDiv}
 use Rattle.integers.specs.Range.{minZ, maxZ}
 use Rattle.oscillator_spec.specs.Position.{basepoint, fraction, fourteenBits}
+use Rattle.kernels_spec.specs.declared.clips.Clips.{Clips}
 use Rattle.kernels_spec.specs.Kernel.{Samples, places, Kernel}
+use Rattle.kernels_spec.specs.Clips.{noClips, oneClip}
 
 -- ---- exact
 -- a row of coefficients times the samples (a column of the Farrow structure in source document 002)
@@ -50,8 +52,11 @@ output κ x m = held 1 (rounded κ x m)
 unfoldable pub outside : ℤ → Bool
 outside z = ltZ z (negℤ (pos 32768)) || ltZ (pos 32767) z
 
-unfoldable pub clips : Kernel → Samples → ℤ → Bool
-clips κ x m = outside (rounded κ x m)
+unfoldable pub clipsOf : ℤ → Clips
+clipsOf z = cond (outside z) oneClip noClips
+
+unfoldable pub clips : Kernel → Samples → ℤ → Clips
+clips κ x m = clipsOf (rounded κ x m)
 
 -- ---- the paper: "the same formula at u = f/2^32, held but not rounded", over `unit κ (2 ^ 32)`
 unfoldable pub paper : Kernel → Samples → ℤ → ℤ
@@ -76,19 +81,19 @@ windowAt κ window place = places window (place + 2 - κ .reach)
 unfoldable pub filterFraction : Kernel → ℕ → ℤ
 filterFraction κ q = fourteenBits (fraction (κ .nearest) q)
 
--- "the value of demand 2 at the paper's basepoint and at m of the paper's fraction, over the joined samples": at the position q, and whether it counts as a clip
+-- "the value of demand 2 at the paper's basepoint and at m of the paper's fraction, over the joined samples": at the position q, and the clip that it counts as, or none
 unfoldable pub value : Kernel → List ℤ → ℕ → ℤ
 value κ xs q = output κ (joinedAt xs (basepoint (κ .nearest) q)) (filterFraction κ q)
 
-unfoldable pub valueClips : Kernel → List ℤ → ℕ → Bool
+unfoldable pub valueClips : Kernel → List ℤ → ℕ → Clips
 valueClips κ xs q = clips κ (joinedAt xs (basepoint (κ .nearest) q)) (filterFraction κ q)
 
--- from the card's register and window: the exact value over `unit κ (2 ^ 14)`, the output, and whether it counts as a clip
+-- from the card's register and window: the exact value over `unit κ (2 ^ 14)`, the output, and its clip or none
 unfoldable pub numeratorOf : Kernel → ℕ → List ℤ → ℤ
 numeratorOf κ register window = numerator κ (windowAt κ window) (filterFraction κ register) (pos (2 ^ 14))
 
 unfoldable pub outputOf : Kernel → ℕ → List ℤ → ℤ
 outputOf κ register window = output κ (windowAt κ window) (filterFraction κ register)
 
-unfoldable pub clipOf : Kernel → ℕ → List ℤ → Bool
+unfoldable pub clipOf : Kernel → ℕ → List ℤ → Clips
 clipOf κ register window = clips κ (windowAt κ window) (filterFraction κ register)

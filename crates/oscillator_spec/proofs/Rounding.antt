@@ -1,9 +1,15 @@
--- The two ways in which the code rounds a word are the definition's: from half words, one more and halved; and by half of the divisor, added first. Assumes nothing.
+-- How a word is rounded: halves go upward, and the two ways in which the code rounds are the definition's: from half words, one more and halved; and by half of the divisor, added
+-- first. Assumes nothing.
 use mathlib.Core.Path.{_≡_, sym, ap, _∙_}
 use Prim.Native.Nat.{ℕ, _+_, _*_, _/_, _^_, _≤_, _<_}
 use native.Mathlib.Nat.{add-div-right, div-div-eq-div-mul, le-div-iff-mul-le, mul-comm}
 use native.Mathlib.Omega.{arith}
 use Rattle.oscillator_spec.specs.Word.{nearestWord}
+
+-- "A ratio is multiplied by 2^32 exactly, then rounded to the nearest whole number, halves upward": k words and a half round to k + 1
+pub half-up : (k : ℕ) → nearestWord (2 * k + 1) (2 ^ 33) ≡ k + 1
+unfolding nearestWord
+half-up k = omega arith
 
 -- the definition in naturals
 in-naturals : (a c : ℕ) → nearestWord a c ≡ (2 * (a * 2 ^ 32) + c) / (2 * c)

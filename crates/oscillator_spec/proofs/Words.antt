@@ -21,6 +21,23 @@ pub is-word : (w : ℕ) → isWord w ≡ true → (1 ≤ w) × (w ≤ 2 ^ 34)
 unfolding isWord
 is-word w e = let t = both (leb 1 w) (leb w (2 ^ 34)) e in (leb-true 1 w (t .0), leb-true w (2 ^ 34) (t .1))
 
+-- ---- refusal 2: "ratio not finite, or below zero (minus zero is zero)"
+pub ratio-not-a-number : ratioWord nan ≡ refused 2
+unfolding ratioWord
+ratio-not-a-number = refl
+
+pub ratio-infinite : (s : Bool) → ratioWord (inf s) ≡ refused 2
+unfolding ratioWord
+ratio-infinite s = refl
+
+pub ratio-below : (m : ℕ) (e : ℤ) → ratioWord (fin true (suc m) e) ≡ refused 2
+unfolding ratioWord
+ratio-below m e = refl
+
+pub ratio-minus-zero : (e : ℤ) → ratioWord (fin true zero e) ≡ inRange 0
+unfolding ratioWord
+ratio-minus-zero e = refl
+
 -- ---- every setting
 -- a word in 1..2^34, or a refusal 2, 3 or 4
 abbrev Sound : Outcome → Type 0
@@ -50,20 +67,3 @@ word-within s w e = rw e at (sound s)
 
 pub refusal-within : (s : Setting) (n : ℕ) → wordOf s ≡ refused n → (2 ≤ n) × (n ≤ 4)
 refusal-within s n e = rw e at (sound s)
-
--- ---- refusal 2: "ratio not finite, or below zero (minus zero is zero)"
-pub ratio-not-a-number : ratioWord nan ≡ refused 2
-unfolding ratioWord
-ratio-not-a-number = refl
-
-pub ratio-infinite : (s : Bool) → ratioWord (inf s) ≡ refused 2
-unfolding ratioWord
-ratio-infinite s = refl
-
-pub ratio-below : (m : ℕ) (e : ℤ) → ratioWord (fin true (suc m) e) ≡ refused 2
-unfolding ratioWord
-ratio-below m e = refl
-
-pub ratio-minus-zero : (e : ℤ) → ratioWord (fin true zero e) ≡ inRange 0
-unfolding ratioWord
-ratio-minus-zero e = refl

@@ -13,6 +13,18 @@ unfoldable pub position : ℕ → List ℕ → ℕ
 position p [] = p
 position p (w ∷ ws) = position (p + w) ws
 
+-- the exact oscillator: the position of the next output, "which never wraps", and the word in force there
+pub record Oscillator : Type 0 where
+  pub position : ℕ
+  pub word : ℕ
+
+abbrev pub oscillator : (position word : ℕ) → Oscillator
+oscillator q w = record { position = q; word = w }
+
+-- past an output: "Q(k+1) = Q(k) + the word in force when output k is written". The word stays. All that goes on from one output to the next does it by this
+abbrev pub next : Oscillator → Oscillator
+next o = oscillator (o .position + o .word) (o .word)
+
 -- what is added before rounding down
 abbrev pub half : Bool → ℕ
 half nearest = cond nearest (2 ^ 31) 0

@@ -10,16 +10,17 @@ use lib.Dec.{eqb, leb, ltb}
 use lib.IntN.{ℤ}
 use lib.ListN.{length, take, drop, drop-of-length-le}
 use lib.Seq.{take-at}
-use Rattle.converter_spec.specs.declared.state.State.{State}
+use Rattle.converter_state.specs.declared.state.State.{State}
 use Rattle.converter_spec.specs.declared.feeding.Fed.{Fed}
-use Rattle.converter_spec.specs.Start.{isState}
-use Rattle.converter_spec.specs.Feeding.{Answer, answerOf, fedOf, outputsOf, over}
+use Rattle.converter_state.specs.Start.{isState}
+use Rattle.bytes_spec.specs.Overwritten.{over}
+use Rattle.converter_spec.specs.Feeding.{fedOf, outputsOf}
 use Rattle.converter_spec.proofs.Feeds.{fed-rule, fed-refused, fed-sizes}
 use Rattle.frames_spec.specs.declared.answers.DataLine.{DataLine}
 use Rattle.frames_spec.specs.declared.answers.StartLine.{StartLine}
 use Rattle.frames_spec.specs.Line.{Read, read, lineEnd}
 use Rattle.frames_spec.specs.Frame.{Frame, dataLine, dataAnswer, filled, DataRight}
-use Rattle.frames_spec.specs.Start.{Start, startLine, startAnswer}
+use Rattle.frames_spec.specs.StartLine.{Start, startLine, startAnswer}
 use Rattle.program_spec.specs.declared.turn.Stream.{Stream}
 use Rattle.program_spec.specs.declared.turn.Turn.{Turn}
 use Rattle.program_spec.specs.declared.turn.Next.the-variants as next
@@ -28,7 +29,7 @@ use Rattle.program_spec.specs.Turn.{asks, ends, refuses, startTurn, afterFeed, 
 use Rattle.program.specs.Block.{FedText}
 use Rattle.frames_spec.proofs.Frames.{taken}
 use Rattle.frames_spec.proofs.Starts.{start-taken}
-use Rattle.program_spec.proofs.Lines.{outputs-length, refusal-length}
+use Rattle.program_spec.proofs.LinesWritten.{outputs-length, refusal-length}
 
 -- ---- the kinds of turn
 module _ (s : Stream) (bs : List ℕ) (ended : Bool) (room : ℕ) where
@@ -114,23 +115,23 @@ refusal-by s xs n true e = rw (fed-rule s e xs n .0) (omega arith, λ h. absurd 
 refusal-by s xs n false e = rw (fed-refused s e xs n .0) (omega arith, λ h. fed-refused s e xs n .1)
 
 module _ (s : Stream) (xs : List ℤ) (old : List ℕ) {f : Fed} {text : List ℕ} (right : FedText (s .state) xs (spaceIn (length old)) old f text) where
-  abbrev answer : Answer
+  abbrev answer : Fed
   answer = fedOf (s .state) xs (spaceIn (length old))
 
   abbrev ys : List ℤ
   ys = outputsOf (s .state) xs (spaceIn (length old))
 
   same : f .refusal ≡ answer .refusal
-  same = ap (λ (a : Answer). a .refusal) (right .answer)
+  same = ap (λ (a : Fed). a .refusal) (right .answer)
 
-  written : f .written ≡ length ys
-  written = ap (λ (a : Answer). a .written) (right .answer) ∙ fed-sizes (s .state) xs (spaceIn (length old)) .0
+  written : f .counts .written ≡ length ys
+  written = ap (λ (a : Fed). a .counts .written) (right .answer) ∙ fed-sizes (s .state) xs (spaceIn (length old)) .0
 
-  pub feed-sizes : (f .refusal ≤ 5) × (f .taken ≤ length xs) × (f .written ≤ spaceIn (length old))
+  pub feed-sizes : (f .refusal ≤ 5) × (f .counts .taken ≤ length xs) × (f .counts .written ≤ spaceIn (length old))
   feed-sizes =
       let z = fed-sizes (s .state) xs (spaceIn (length old)) in
       let r = refusal-by (s .state) xs (spaceIn (length old)) (isState (s .state)) refl in
-      (omega (arith, same, r .0), omega (arith, z .1, ap (λ (a : Answer). a .taken) (right .answer)), omega (arith, written, z .2))
+      (omega (arith, same, r .0), omega (arith, z .1, ap (λ (a : Fed). a .counts .taken) (right .answer)), omega (arith, written, z .2))
 
   pub feed-refuses : (size : ℕ) {left : List ℕ} → (f .refusal ≡ 0 → ⊥) → left ≡ refusalLine (f .refusal) ++ drop 4 text
       → Wrote (feedTurn s size answer ys) old (record { stream = s; used = 0; written = 4; next = next.Done }) left
@@ -141,7 +142,7 @@ module _ (s : Stream) (xs : List ℤ) (old : List ℕ) {f : Fed} {text : List �
       rw (ne-eqb (answer .refusal) 0 (λ z. bad (same ∙ z)), ← same)
       (wrote-last (refusalLine (f .refusal)) 4 (refusal-length (f .refusal)) (e ∙ ap (λ t. refusalLine (f .refusal) ++ drop 4 t) kept))
 
-  pub feed-goes : (size : ℕ) {t : Turn} → f .refusal ≡ 0 → ((zs : List ℤ) → length zs ≡ f .written → t ≡ turnAnswer (afterFeed s size (answerOf f) zs))
+  pub feed-goes : (size : ℕ) {t : Turn} → f .refusal ≡ 0 → ((zs : List ℤ) → length zs ≡ f .counts .written → t ≡ turnAnswer (afterFeed s size f zs))
       → Wrote (feedTurn s size answer ys) old t text
   feed-goes size z h =
       rw (eq-eqb (answer .refusal) 0 (sym same ∙ z))

@@ -1,20 +1,28 @@
 // A feed whose outputs go to text, block by block.
+use crate::text::OUTPUT_LENGTH;
 use crate::text::put_outputs;
+use converter_spec::Counts;
 use converter_spec::End;
 use converter_spec::Fed;
-use converter_spec::State;
+use converter_state::State;
+use kernels::add_clips;
+use kernels::no_clips;
 ghost use mathlib.Core.Path.{_≡_};
 ghost use Prim.Native.Nat.{_+_, _^_, _<_, min};
 ghost use lib.ListN.{length};
-ghost use Rattle.converter_spec.specs.Feeding.{answerOf};
+ghost use Rattle.kernels_spec.specs.Clips.{total};
+ghost use Rattle.converter_spec.specs.Feeding.{addCounts};
 ghost use Rattle.program_spec.specs.Turn.{spaceIn};
-ghost use Rattle.program.specs.Block.{goesOn, FedText};
+ghost use Rattle.program.specs.Block.{blockSize, goesOn, FedText};
 
-// Space for the outputs of a block.
-fn outputs_block() -> [i16; 512]
-    ensures { λ r. ⌜ 512 ≡ length r ⌝ }
+// The outputs of a block.
+const BLOCK: usize = 512;
+
+// Space for them.
+fn outputs_block() -> [i16; BLOCK]
+    ensures { λ r. ⌜ blockSize ≡ length r ⌝ }
 {
-    [0i16; 512]
+    [0i16; BLOCK]
 }
 
 pub fn least(a: usize, b: usize) -> usize
@@ -25,30 +33,40 @@ pub fn least(a: usize, b: usize) -> usize
 
 // Feeds into one block, and writes its outputs as text.
 fn feed_block(state: State, samples: &[i16], text: &mut [u8]) -> Fed
-    ensures { λ r. ⌜ FedText state (now (samples .entry)) (min (spaceIn (length (now (text .entry)))) 512) (now (text .entry)) r (now (text .exit)) ⌝ }
+    ensures { λ r. ⌜ FedText state (now (samples .entry)) (min (spaceIn (length (now (text .entry)))) blockSize) (now (text .entry)) r (now (text .exit)) ⌝ }
 {
     let mut outputs = outputs_block();
-    let space = least(text.len() / 5, 512);
+    let space = least(text.len() / OUTPUT_LENGTH, BLOCK);
     let fed = converter::feed(state, samples, &mut outputs[..space]);
-    let written = fed.written;
+    let written = fed.counts.written;
     put_outputs(&outputs[..written], text);
     fed
 }
 
-// What two feeds did together, the second of which went on from the first.
-fn joined(a: Fed, b: Fed) -> Fed
-    requires { ⌜ (a .taken + b .taken < 2 ^ 64) × (a .written + b .written < 2 ^ 64) × (a .clips + b .clips < 2 ^ 64) ⌝ }
-    ensures { λ r. ⌜ answerOf r ≡ goesOn (answerOf a) (answerOf b) ⌝ }
+// The counts of two feeds together, of which the second comes last.
+fn add_counts(a: Counts, b: Counts) -> Counts
+    requires { ⌜ (a .taken + b .taken < 2 ^ 64) × (a .written + b .written < 2 ^ 64) × (total (a .clips) + total (b .clips) < 2 ^ 64) ⌝ }
+    ensures { λ r. ⌜ r ≡ addCounts a b ⌝ }
 {
-    let state = b.state;
+    let clips = add_clips(a.clips, b.clips);
     let end = b.end;
-    Fed {
-        state: state,
+    Counts {
         taken: a.taken + b.taken,
         written: a.written + b.written,
-        clips: a.clips + b.clips,
+        clips: clips,
         end: end,
-        refusal: b.refusal,
+    }
+}
+
+// What two feeds did together, the second of which went on from the first.
+fn joined(a: Fed, b: Fed) -> Fed
+    requires { ⌜ (a .counts .taken + b .counts .taken < 2 ^ 64) × (a .counts .written + b .counts .written < 2 ^ 64) × (total (a .counts .clips) + total (b .counts .clips) < 2 ^ 64) ⌝ }
+    ensures { λ r. ⌜ r ≡ goesOn a b ⌝ }
+{
+    let counts = add_counts(a.counts, b.counts);
+    Fed {
+        counts: counts,
+        ..b
     }
 }
 
@@ -56,28 +74,36 @@ fn joined(a: Fed, b: Fed) -> Fed
 pub fn feed_text(state: State, samples: &[i16], text: &mut [u8]) -> Fed
     ensures { λ r. ⌜ FedText state (now (samples .entry)) (spaceIn (length (now (text .entry)))) (now (text .entry)) r (now (text .exit)) ⌝ }
 {
-    let room = text.len() / 5;
+    let room = text.len() / OUTPUT_LENGTH;
+    let none = no_clips();
     let mut fed = Fed {
         state: state,
-        taken: 0,
-        written: 0,
-        clips: 0,
-        end: End::Full,
+        counts: Counts {
+            taken: 0,
+            written: 0,
+            clips: none,
+            end: End::Full,
+        },
         refusal: 0,
     };
     loop {
-        let taken = fed.taken;
-        let written = fed.written;
-        let more = feed_block(fed.state, &samples[taken..], &mut text[written * 5..]);
+        let taken = fed.counts.taken;
+        let written = fed.counts.written;
+        let more = feed_block(
+            fed.state,
+            &samples[taken..],
+            &mut text[written * OUTPUT_LENGTH..],
+        );
         fed = joined(fed, more);
-        let end = fed.end;
+        let counts = fed.counts;
+        let end = counts.end;
         match end {
             End::Hungry => {
                 return fed;
             }
             End::Full => {}
         }
-        if fed.written == room {
+        if counts.written == room {
             return fed;
         }
     }

@@ -4,12 +4,27 @@ ghost use mathlib.Core.List.{_++_};
 ghost use Prim.Native.Nat.{_+_, _*_, _≤_, _<_};
 ghost use lib.ListN.{length, drop};
 ghost use Rattle.frames_spec.specs.Line.{digitsOf};
-ghost use Rattle.program_spec.specs.Program.{outputLine, outputLines, endLine, refusalLine};
+ghost use Rattle.program_spec.specs.Program.{outputLine, outputLength, outputLines, endLine, endLength, refusalLine, refusalLength};
+
+// How long the line of an output, the last line of a run and the line of a refusal are: `outputLength`, `endLength`, `refusalLength`.
+pub const OUTPUT_LENGTH: usize = 5;
+
+pub const END_LENGTH: usize = 34;
+
+pub const REFUSAL_LENGTH: usize = 4;
+
+// The digits of a count.
+const COUNT_DIGITS: usize = 16;
+
+// Where the count of clips and byte 10 stand in the last line of a run.
+const CLIPS_AT: usize = 17;
+
+const END_AT: usize = 33;
 
 // One output, at the front of the text.
 fn put_output(y: i16, text: &mut [u8])
-    requires { ⌜ 5 ≤ length (now text) ⌝ }
-    ensures { λ _. ⌜ now (text .exit) ≡ outputLine y ++ drop 5 (now (text .entry)) ⌝ }
+    requires { ⌜ outputLength ≤ length (now text) ⌝ }
+    ensures { λ _. ⌜ now (text .exit) ≡ outputLine y ++ drop outputLength (now (text .entry)) ⌝ }
 {
     let v = integers::bits(y) as u64;
     text[0] = frames_read::digit(v / 4096);
@@ -21,12 +36,12 @@ fn put_output(y: i16, text: &mut [u8])
 
 // Outputs, a line each, at the front of the text.
 pub fn put_outputs(ys: &[i16], text: &mut [u8])
-    requires { ⌜ length (now ys) * 5 ≤ length (now text) ⌝ }
-    ensures { λ _. ⌜ now (text .exit) ≡ outputLines (now (ys .entry)) ++ drop (length (now (ys .entry)) * 5) (now (text .entry)) ⌝ }
+    requires { ⌜ length (now ys) * outputLength ≤ length (now text) ⌝ }
+    ensures { λ _. ⌜ now (text .exit) ≡ outputLines (now (ys .entry)) ++ drop (length (now (ys .entry)) * outputLength) (now (text .entry)) ⌝ }
 {
     let mut i: usize = 0;
     while i < ys.len() {
-        put_output(ys[i], &mut text[i * 5..]);
+        put_output(ys[i], &mut text[i * OUTPUT_LENGTH..]);
         i += 1;
     }
 }
@@ -37,7 +52,7 @@ fn put_number(n: u64, text: &mut [u8])
     ensures { λ _. ⌜ now (text .exit) ≡ digitsOf 16 n ++ drop 16 (now (text .entry)) ⌝ }
 {
     let mut left = n;
-    let mut i: usize = 16;
+    let mut i: usize = COUNT_DIGITS;
     while i > 0 {
         i -= 1;
         text[i] = frames_read::digit(left);
@@ -47,22 +62,22 @@ fn put_number(n: u64, text: &mut [u8])
 
 // The last line of a run, at the front of the text.
 pub fn put_end(outputs: u64, clips: u64, text: &mut [u8])
-    requires { ⌜ 34 ≤ length (now text) ⌝ }
-    ensures { λ _. ⌜ now (text .exit) ≡ endLine outputs clips ++ drop 34 (now (text .entry)) ⌝ }
+    requires { ⌜ endLength ≤ length (now text) ⌝ }
+    ensures { λ _. ⌜ now (text .exit) ≡ endLine outputs clips ++ drop endLength (now (text .entry)) ⌝ }
 {
-    text[0] = 69;
+    text[0] = b'E';
     put_number(outputs, &mut text[1..]);
-    put_number(clips, &mut text[17..]);
-    text[33] = 10;
+    put_number(clips, &mut text[CLIPS_AT..]);
+    text[END_AT] = 10;
 }
 
 // The line of a refusal, at the front of the text.
 pub fn put_refusal(n: u8, text: &mut [u8])
-    requires { ⌜ (n < 100) × (4 ≤ length (now text)) ⌝ }
-    ensures { λ _. ⌜ now (text .exit) ≡ refusalLine n ++ drop 4 (now (text .entry)) ⌝ }
+    requires { ⌜ (n < 100) × (refusalLength ≤ length (now text)) ⌝ }
+    ensures { λ _. ⌜ now (text .exit) ≡ refusalLine n ++ drop refusalLength (now (text .entry)) ⌝ }
 {
-    text[0] = 82;
-    text[1] = 48 + n / 10;
-    text[2] = 48 + n % 10;
+    text[0] = b'R';
+    text[1] = b'0' + n / 10;
+    text[2] = b'0' + n % 10;
     text[3] = 10;
 }

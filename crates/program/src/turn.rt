@@ -1,11 +1,20 @@
 // One turn of the program: at most one line is read, and what it gives is written.
 use crate::feeds::feed_text;
 use crate::feeds::least;
+use crate::text::END_LENGTH;
+use crate::text::OUTPUT_LENGTH;
+use crate::text::REFUSAL_LENGTH;
 use crate::text::put_end;
 use crate::text::put_refusal;
 use converter_spec::End;
 use converter_spec::Fed;
-use converter_spec::State;
+use converter_state::State;
+use frames_spec::COUNT_LIMIT;
+use frames_spec::FRAME_LENGTH;
+use frames_spec::LINE_LIMIT;
+use frames_spec::SAMPLE_DIGITS;
+use frames_spec::START_LENGTH;
+use kernels::total_clips;
 use oscillator_spec::Setting;
 use program_spec::Next;
 use program_spec::Stream;
@@ -15,18 +24,18 @@ ghost use mathlib.Core.List.{List};
 ghost use Prim.Native.Nat.{_+_, _*_, _^_, _≤_, _<_};
 ghost use lib.IntN.{ℤ};
 ghost use lib.ListN.{length, drop};
-ghost use Rattle.converter_spec.specs.Feeding.{answerOf, fedOf, outputsOf};
+ghost use Rattle.converter_spec.specs.Feeding.{fedOf, outputsOf};
 ghost use Rattle.frames_spec.specs.Line.{used};
-ghost use Rattle.frames_spec.specs.Frame.{dataLine};
-ghost use Rattle.frames_spec.specs.Start.{startLine};
-ghost use Rattle.program_spec.specs.Program.{endLine};
+ghost use Rattle.frames_spec.specs.Frame.{countLimit, dataLine};
+ghost use Rattle.frames_spec.specs.StartLine.{startLine};
+ghost use Rattle.program_spec.specs.Program.{outputLength, endLine, endLength};
 ghost use Rattle.program_spec.specs.Turn.{opened, asks, ends, refuses, startTurn, afterFeed, feedTurn, dataTurn, turnAnswer, spaceIn, Wrote, TurnRight};
 
 // The stream before the K line.
 pub fn open() -> Stream
     ensures { λ r. ⌜ r ≡ opened ⌝ }
 {
-    let state = converter_spec::no_state();
+    let state = converter_state::no_state();
     Stream {
         state: state,
         started: false,
@@ -50,31 +59,31 @@ fn asks(s: Stream, next: Next) -> Turn
 
 // The last turn of a run with a line that is refused, unless the line may still be to come.
 fn refuses(s: Stream, refusal: u8, have: usize, ended: bool, text: &mut [u8]) -> Turn
-    requires { ⌜ (refusal < 100) × (34 ≤ length (now text)) ⌝ }
+    requires { ⌜ (refusal < 100) × (endLength ≤ length (now text)) ⌝ }
     ensures { λ r. ⌜ Wrote (refuses s refusal have ended) (now (text .entry)) r (now (text .exit)) ⌝ }
 {
-    if refusal == 6 && !ended && have < 270 {
+    if refusal == 6 && !ended && have < LINE_LIMIT {
         return asks(s, Next::Read);
     }
     put_refusal(refusal, text);
     Turn {
         stream: s,
         used: 0,
-        written: 4,
+        written: REFUSAL_LENGTH,
         next: Next::Done,
     }
 }
 
 // A turn that reads the K line.
 fn start_turn(s: Stream, bytes: &[u8], ended: bool, text: &mut [u8]) -> Turn
-    requires { ⌜ 34 ≤ length (now text) ⌝ }
+    requires { ⌜ endLength ≤ length (now text) ⌝ }
     ensures { λ r. ⌜ Wrote (startTurn s (startLine (now (bytes .entry))) (now (bytes .entry)) ended) (now (text .entry)) r (now (text .exit)) ⌝ }
 {
     let k = frames_read::read_start(bytes);
     if k.refusal != 0 {
         return refuses(s, k.refusal, bytes.len(), ended, text);
     }
-    let started = converter_spec::start(k.kernel, Setting::Word(k.word), k.phase);
+    let started = converter_state::start(k.kernel, Setting::Word(k.word), k.phase);
     let state = started.state;
     Turn {
         stream: Stream {
@@ -84,53 +93,55 @@ fn start_turn(s: Stream, bytes: &[u8], ended: bool, text: &mut [u8]) -> Turn
             outputs: 0,
             clips: 0,
         },
-        used: 20,
+        used: START_LENGTH,
         written: 0,
         next: Next::Again,
     }
 }
 
 // Space for the samples of a line.
-fn samples_block() -> [i16; 64]
-    ensures { λ r. ⌜ 64 ≡ length r ⌝ }
+fn samples_block() -> [i16; COUNT_LIMIT]
+    ensures { λ r. ⌜ countLimit ≡ length r ⌝ }
 {
-    [0i16; 64]
+    [0i16; COUNT_LIMIT]
 }
 
 // The turn of a feed that wrote its outputs as text.
 fn fed_turn(s: Stream, size: usize, fed: Fed) -> Turn
-    requires { ⌜ (s .skip + fed .taken < 2 ^ 64) × (fed .written * 5 < 2 ^ 63) ⌝ }
-    ensures { λ r. ⌜ ((ys : List ℤ) → length ys ≡ fed .written → r ≡ turnAnswer (afterFeed s size (answerOf fed) ys)) ⌝ }
+    requires { ⌜ (s .skip + fed .counts .taken < 2 ^ 64) × (fed .counts .written * outputLength < 2 ^ 63) ⌝ }
+    ensures { λ r. ⌜ ((ys : List ℤ) → length ys ≡ fed .counts .written → r ≡ turnAnswer (afterFeed s size fed ys)) ⌝ }
 {
     let mut used = size;
     let mut skip: usize = 0;
-    let end = fed.end;
+    let counts = fed.counts;
+    let end = counts.end;
     match end {
         End::Hungry => {}
         End::Full => {
             used = 0;
-            skip = s.skip + fed.taken;
+            skip = s.skip + counts.taken;
         }
     }
     let state = fed.state;
-    let written = fed.written;
+    let written = counts.written;
+    let clips = total_clips(counts.clips);
     Turn {
         stream: Stream {
             state: state,
             started: true,
             skip: skip,
             outputs: std::num::wrapping_add_u64(s.outputs, written as u64),
-            clips: std::num::wrapping_add_u64(s.clips, fed.clips as u64),
+            clips: std::num::wrapping_add_u64(s.clips, clips as u64),
         },
         used: used,
-        written: written * 5,
+        written: written * OUTPUT_LENGTH,
         next: Next::Again,
     }
 }
 
 // Feeds the samples of a line that are not taken yet, and writes the outputs as text. The line is `size` bytes long.
 fn feed_turn(s: Stream, size: usize, samples: &[i16], text: &mut [u8]) -> Turn
-    requires { ⌜ 34 ≤ length (now text) ⌝ }
+    requires { ⌜ endLength ≤ length (now text) ⌝ }
     ensures { λ r. ⌜ Wrote (feedTurn s size (fedOf (s .state) (drop (s .skip) (now (samples .entry))) (spaceIn (length (now (text .entry))))) (outputsOf (s .state) (drop (s .skip) (now (samples .entry))) (spaceIn (length (now (text .entry)))))) (now (text .entry)) r (now (text .exit)) ⌝ }
 {
     let skip = least(s.skip, samples.len());
@@ -140,7 +151,7 @@ fn feed_turn(s: Stream, size: usize, samples: &[i16], text: &mut [u8]) -> Turn
         return Turn {
             stream: s,
             used: 0,
-            written: 4,
+            written: REFUSAL_LENGTH,
             next: Next::Done,
         };
     }
@@ -149,22 +160,22 @@ fn feed_turn(s: Stream, size: usize, samples: &[i16], text: &mut [u8]) -> Turn
 
 // The last turn of a run whose input has ended.
 fn end_turn(s: Stream, text: &mut [u8]) -> Turn
-    requires { ⌜ 34 ≤ length (now text) ⌝ }
+    requires { ⌜ endLength ≤ length (now text) ⌝ }
     ensures { λ r. ⌜ Wrote (ends s (endLine (s .outputs) (s .clips))) (now (text .entry)) r (now (text .exit)) ⌝ }
 {
     put_end(s.outputs, s.clips, text);
     Turn {
         stream: s,
         used: 0,
-        written: 34,
+        written: END_LENGTH,
         next: Next::Done,
     }
 }
 
 // A turn that reads a D line.
 fn data_turn(s: Stream, bytes: &[u8], ended: bool, text: &mut [u8]) -> Turn
-    requires { ⌜ 34 ≤ length (now text) ⌝ }
-    ensures { λ r. ⌜ Wrote (dataTurn s (dataLine 64 (now (bytes .entry))) (now (bytes .entry)) ended (length (now (text .entry)))) (now (text .entry)) r (now (text .exit)) ⌝ }
+    requires { ⌜ endLength ≤ length (now text) ⌝ }
+    ensures { λ r. ⌜ Wrote (dataTurn s (dataLine countLimit (now (bytes .entry))) (now (bytes .entry)) ended (length (now (text .entry)))) (now (text .entry)) r (now (text .exit)) ⌝ }
 {
     let mut samples = samples_block();
     let d = frames_read::read_data(bytes, &mut samples);
@@ -172,14 +183,19 @@ fn data_turn(s: Stream, bytes: &[u8], ended: bool, text: &mut [u8]) -> Turn
         return refuses(s, d.refusal, bytes.len(), ended, text);
     }
     let count = d.count;
-    feed_turn(s, 14 + count * 4, &samples[..count], text)
+    feed_turn(
+        s,
+        FRAME_LENGTH + count * SAMPLE_DIGITS,
+        &samples[..count],
+        text,
+    )
 }
 
 // Reads at most one line of the unread bytes, which are the whole rest of the input where it has ended, and writes what it gives to the front of the text.
 pub fn make_turn(s: Stream, bytes: &[u8], ended: bool, text: &mut [u8]) -> Turn
     ensures { λ r. ⌜ TurnRight s (now (bytes .entry)) ended (now (text .entry)) r (now (text .exit)) ⌝ }
 {
-    if text.len() < 34 {
+    if text.len() < END_LENGTH {
         return asks(s, Next::Write);
     }
     if !s.started {

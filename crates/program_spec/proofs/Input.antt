@@ -9,10 +9,10 @@ use lib.Dec.{leb, ltb, eqb}
 use lib.ListN.{length, take, drop, length-append, length-take, length-drop}
 use lib.Seq.{take-append-le, drop-append-le}
 use Rattle.oscillator_spec.specs.Word.{isWord}
-use Rattle.converter_spec.specs.Start.{isKernel}
+use Rattle.converter_state.specs.Start.{isKernel}
 use Rattle.frames_spec.specs.Line.{before10, lineEnd, hasEnd, allDigits, Read, read, refused, refuseUnless, andThen, afterLetter, lineDigits, rest}
 use Rattle.frames_spec.specs.Frame.{Frame, countOf, hasLength, checkHolds, frameOf, dataLine}
-use Rattle.frames_spec.specs.Start.{startOf, startLine}
+use Rattle.frames_spec.specs.StartLine.{startOf, startLine}
 use Rattle.program_spec.specs.Program.{joining, receivedBy, receivedIn, received}
 
 -- ---- more bytes follow

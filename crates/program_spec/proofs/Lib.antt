@@ -1,10 +1,11 @@
-pub mod Lines
+pub mod LinesWritten
 pub mod Input
 pub mod Outputs
 pub mod Steps
-pub mod Whole
+pub mod RunsSeen
+pub mod TurnByTurn
 pub mod OneRun
-pub mod Sizes
-pub mod Progress
+pub mod TurnSizes
+pub mod TurnsGoOn
 pub mod Moving
-pub mod Examples
+pub mod ProgramExamples

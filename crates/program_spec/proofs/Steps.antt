@@ -13,24 +13,29 @@ use lib.ListN.{length, drop, length-append, length-drop}
 use lib.Seq.{drop-append-le, drop-drop, drop-length, drop-nil}
 use Rattle.oscillator_spec.specs.declared.settings.Setting.the-variants as setting
 use Rattle.oscillator_spec.specs.Word.{word, inRange}
+use Rattle.oscillator_spec.specs.Position.{oscillator}
+use Rattle.kernels_spec.specs.declared.clips.Clips.{Clips}
 use Rattle.kernels_spec.specs.Kernel.{Kernel, kernelOf}
+use Rattle.kernels_spec.specs.Clips.{noClips, plus, total}
 use Rattle.kernels_spec.specs.Value.{value}
-use Rattle.converter_spec.specs.declared.state.Started.{Started}
-use Rattle.converter_spec.specs.Start.{isKernel, started}
-use Rattle.converter_spec.specs.Feeding.{HUNGRY, FULL, Ran, rule, accepted}
-use Rattle.converter_spec.specs.Paper.{Paper, wordIn}
+use Rattle.kernels_spec.proofs.Counting.{none-plus, total-none, total-plus}
+use Rattle.converter_state.specs.declared.state.Started.{Started}
+use Rattle.converter_state.specs.Start.{isKernel, started}
+use Rattle.converter_spec.specs.declared.feeding.End.{End}
+use Rattle.converter_spec.specs.Feeding.{HUNGRY, FULL, counts, Ran, ran, rule, accepted}
+use Rattle.converter_spec.specs.Paper.{Paper, paperOf, wordIn, positionsOver}
 use Rattle.converter_spec.specs.Demand.{clipsAt}
-use Rattle.converter_spec.proofs.States.{start-word}
-use Rattle.converter_spec.proofs.Runs.{Ending, full, hungry, rule-ending, ran}
+use Rattle.converter_state.proofs.States.{start-word}
+use Rattle.converter_spec.proofs.Runs.{Ending, full, hungry, rule-ending, rule-written}
 use Rattle.converter_spec.proofs.Feeds.{fed-rule}
 use Rattle.converter_spec.proofs.Follows.{last, Sync, needed-is, sync-state, start-sync, alike, Placed, follows}
 use Rattle.frames_spec.specs.Line.{before10, lineEnd, hasEnd, digitsOf, Read, read, refused, rest}
 use Rattle.frames_spec.specs.Frame.{Frame, dataLine}
-use Rattle.frames_spec.specs.Start.{Start, startLine}
+use Rattle.frames_spec.specs.StartLine.{Start, startLine}
 use Rattle.program_spec.specs.declared.turn.Stream.{Stream}
 use Rattle.program_spec.specs.declared.turn.Next.{Next}
 use Rattle.program_spec.specs.declared.turn.Next.the-variants as next
-use Rattle.program_spec.specs.Program.{outputLines, endLine, refusalLine, Received, received, positionsOver, lastLine, converts, programBy, program}
+use Rattle.program_spec.specs.Program.{outputLines, endLine, refusalLine, Received, received, lastLine, converts, programBy, program}
 use Rattle.program_spec.specs.Turn.{Result, asks, ends, refuses, startTurn, afterFeed, spaceIn, dataTurn, turnOf}
 use Rattle.frames_spec.proofs.Starts.{begun}
 use Rattle.program_spec.proofs.Input.{past, past-more, Lines, data-lines, start-lines, ends-more, read-ends, read-more, refusal-above, refused-more, received-read, received-refused, received-none}
@@ -39,7 +44,7 @@ use Rattle.program_spec.proofs.Outputs.{finishes, finishes-fed, finishe
 -- ---- where a run stands: before its K line, or beside the paper at p with c clips so far
 pub data Stage : Type 0 where
   before : Stage
-  beside : (p : Paper) (c : ℕ) → Stage
+  beside : (p : Paper) (c : Clips) → Stage
 
 -- what is still written over the bytes that are left
 abbrev pub still : Stream → Stage → List ℕ → List ℕ
@@ -51,11 +56,11 @@ pub data Front (s : Stream) (u : List ℕ) : Type 0 where
   whole : s .skip ≡ 0 → 1 ≤ s .state .needed → Front s u
   within : {f : Frame} → dataLine 64 u ≡ read f → s .skip ≤ length (f .samples) → Front s u
 
-pub record Beside (s : Stream) (u : List ℕ) (p : Paper) (c : ℕ) : Type 0 where
+pub record Beside (s : Stream) (u : List ℕ) (p : Paper) (c : Clips) : Type 0 where
   pub running : s .started ≡ true
   pub sync : Sync (s .state) p
   pub outputs : s .outputs ≡ p .made % 2 ^ 64
-  pub clips : s .clips ≡ c % 2 ^ 64
+  pub clips : s .clips ≡ total c % 2 ^ 64
   pub front : Front s u
 
 abbrev pub Stands : Stream → List ℕ → Stage → Type 0
@@ -78,21 +83,21 @@ by-test P true f g = f refl
 by-test P false f g = g refl
 
 -- the run is not done
-abbrev pub GoesOn : Next → Type 0
-GoesOn next.Again = Unit {0}
-GoesOn next.Read = Unit {0}
-GoesOn next.Write = Unit {0}
-GoesOn next.Done = ⊥
+abbrev pub Unfinished : Next → Type 0
+Unfinished next.Again = Unit {0}
+Unfinished next.Read = Unit {0}
+Unfinished next.Write = Unit {0}
+Unfinished next.Done = ⊥
 
 -- What is still written is the turn's text and then what is still written after it; and the text alone where the run is done. More bytes may follow those at hand, unless the input has ended.
 pub data Stepped (s : Stream) (u : List ℕ) (g : Stage) (ended : Bool) (w : Result) : Type 0 where
-  goes : (g′ : Stage) → Stands (w .stream) (drop (w .used) u) g′ → GoesOn (w .next)
+  goes : (g′ : Stage) → Stands (w .stream) (drop (w .used) u) g′ → Unfinished (w .next)
       → ((more : List ℕ) → still s g (u ++ more) ≡ w .text ++ still (w .stream) g′ (drop (w .used) u ++ more)) → Stepped s u g ended w
   done : w .next ≡ next.Done → ((more : List ℕ) → (ended ≡ true → more ≡ []) → still s g (u ++ more) ≡ w .text) → Stepped s u g ended w
 
 -- ---- the K line
 abbrev paperAt : Start → Paper
-paperAt k = record { kernel = k .kernel; word = k .word; joined = []; made = 0; position = k .phase }
+paperAt k = paperOf (k .kernel) (oscillator (k .phase) (k .word)) [] 0
 
 program-refused : (bs : List ℕ) (n : ℕ) → startLine bs ≡ refused n → program bs ≡ refusalLine n
 unfolding program
@@ -103,23 +108,23 @@ unfolding program
 program-read bs k e more =
     ap (λ r. programBy r (rest r (bs ++ more))) (read-more start-lines bs e more) ∙ ap (λ zs. converts k (received zs)) (past-more bs more (read-ends start-lines bs e))
 
-converts-is : (k : Start) (r : Received) → converts k r ≡ finishes (paperAt k) 0 (r .samples) (r .refusal)
+converts-is : (k : Start) (r : Received) → converts k r ≡ finishes (paperAt k) noClips (r .samples) (r .refusal)
 unfolding converts finishes
 converts-is k r =
     let κ : Kernel = kernelOf (k .kernel) in
-    let at : List ℕ = positionsOver κ (k .word) (k .phase) (length (r .samples)) in
-    λ i. outputLines (map (value κ (r .samples)) at) ++ lastLine (r .refusal) (sym (zero-add (length at)) i) (sym (zero-add (clipsAt κ (r .samples) at)) i)
+    let at : List ℕ = positionsOver κ (oscillator (k .phase) (k .word)) (length (r .samples)) in
+    λ i. outputLines (map (value κ (r .samples)) at) ++ lastLine (r .refusal) (sym (zero-add (length at)) i) (total (sym (none-plus (clipsAt κ (r .samples) at)) i))
 
-start-beside : (s : Stream) (u bs : List ℕ) (ended : Bool) (k : Start) → startLine u ≡ read k → Beside (startTurn s (read k) u ended .stream) bs (paperAt k) 0
+start-beside : (s : Stream) (u bs : List ℕ) (ended : Bool) (k : Start) → startLine u ≡ read k → Beside (startTurn s (read k) u ended .stream) bs (paperAt k) noClips
 unfolding inRange isKernel
 start-beside s u bs ended k e =
     let z = begun u k e in
     let i : inRange (k .word) ≡ word (k .word) = rw (z .word) in
     let t = start-word (k .kernel) (setting.Word (k .word)) (k .phase) (k .word) (leb-true (k .kernel) 3 (z .kernel)) i in
     let y : Sync (started (k .kernel) (setting.Word (k .word)) (k .phase) .state) (paperAt k)
-    = subst (λ o. Sync (started (k .kernel) (setting.Word (k .word)) (k .phase) .state) (record { kernel = k .kernel; word = wordIn o; joined = []; made = 0; position = k .phase })) i
+    = subst (λ o. Sync (started (k .kernel) (setting.Word (k .word)) (k .phase) .state) (paperOf (k .kernel) (oscillator (k .phase) (wordIn o)) [] 0)) i
     (start-sync (k .kernel) (setting.Word (k .word)) (k .phase) (z .phase) (ap (λ (x : Started). x .refusal) t)) in
-    record { running = refl; sync = y; outputs = refl; clips = refl; front = whole refl (omega (arith, needed-is y)) }
+    record { running = refl; sync = y; outputs = refl; clips = ap (λ n. n % 2 ^ 64) (sym total-none); front = whole refl (omega (arith, needed-is y)) }
 
 -- ---- the last line
 -- counts modulo 2^64 are all that it says
@@ -142,8 +147,8 @@ none-of [] e = refl
 none-of (x ∷ xs) e = absurd (omega (arith, e))
 
 -- no sample comes, and no line is at the front
-module _ {s : Stream} {u : List ℕ} {p : Paper} {c : ℕ} (y : Beside s u p c) (none : (f : Frame) → dataLine 64 u ≡ read f → ⊥) where
-  last-still : (n : ℕ) (zs : List ℕ) → received zs ≡ record { samples = []; refusal = n } → still s (beside p c) zs ≡ lastLine n (p .made) c
+module _ {s : Stream} {u : List ℕ} {p : Paper} {c : Clips} (y : Beside s u p c) (none : (f : Frame) → dataLine 64 u ≡ read f → ⊥) where
+  last-still : (n : ℕ) (zs : List ℕ) → received zs ≡ record { samples = []; refusal = n } → still s (beside p c) zs ≡ lastLine n (p .made) (total c)
   last-still n zs e =
       ap (λ (r : Received). finishes p c (drop (s .skip) (r .samples)) (r .refusal)) e
       ∙ ap (λ xs. finishes p c xs n) (drop-nil (s .skip))
@@ -154,7 +159,7 @@ module _ {s : Stream} {u : List ℕ} {p : Paper} {c : ℕ} (y : Beside s u p c) 
       go (within {f} e l) = absurd (none f e)
 
 module _ (s : Stream) (u : List ℕ) (ended : Bool) where
-  asks-step : (g : Stage) (n : Next) → GoesOn n → Stands s u g → Stepped s u g ended (asks s n)
+  asks-step : (g : Stage) (n : Next) → Unfinished n → Stands s u g → Stepped s u g ended (asks s n)
   asks-step g n h y = goes g y h (λ more. refl)
 
   -- a line that is refused
@@ -169,10 +174,10 @@ module _ (s : Stream) (u : List ℕ) (ended : Bool) where
 
   -- the K line
   start-step : s .started ≡ false → (r : Read Start) → startLine u ≡ r → Stepped s u before ended (startTurn s r u ended)
-  start-step y (read k) e = goes (beside (paperAt k) 0) (start-beside s u _ ended k e) tt (λ more. program-read u k e more ∙ converts-is k (received (past u ++ more)))
+  start-step y (read k) e = goes (beside (paperAt k) noClips) (start-beside s u _ ended k e) tt (λ more. program-read u k e more ∙ converts-is k (received (past u ++ more)))
   start-step y (refused n) e = refuses-step start-lines before y n e (λ t more e′. program-refused (u ++ more) n e′)
 
-  module _ (p : Paper) (c : ℕ) (y : Beside s u p c) where
+  module _ (p : Paper) (c : Clips) (y : Beside s u p c) where
     -- a D line whose samples, but those that are skipped, are fed: the run r of the rule
     module _ {f : Frame} (e : dataLine 64 u ≡ read f) where
       skipped : s .skip ≤ length (f .samples)
@@ -187,13 +192,13 @@ module _ (s : Stream) (u : List ℕ) (ended : Bool) where
       later more = received (past u ++ more)
 
       -- what is still written from a paper on, k of the line's samples skipped
-      read-still : (q : Paper) (d k : ℕ) → k ≤ length (f .samples) → (more : List ℕ)
+      read-still : (q : Paper) (d : Clips) (k : ℕ) → k ≤ length (f .samples) → (more : List ℕ)
           → finishes q d (drop k (received (u ++ more) .samples)) (received (u ++ more) .refusal) ≡ finishes q d (drop k (f .samples) ++ later more .samples) (later more .refusal)
       read-still q d k l more =
           ap (λ (t : Received). finishes q d (drop k (t .samples)) (t .refusal)) (received-read u more e)
           ∙ ap (λ xs. finishes q d xs (later more .refusal)) (drop-append-le k (f .samples) (later more .samples) l)
 
-      module _ (r : Ran) (z : Placed p (drop (s .skip) (f .samples)) r) where
+      module _ (r : Ran) (z : Placed p (drop (s .skip) (f .samples)) r) (w : r .counts .written ≡ length (r .outputs)) where
         abbrev xs : List ℤ
         xs = drop (s .skip) (f .samples)
 
@@ -202,50 +207,50 @@ module _ (s : Stream) (u : List ℕ) (ended : Bool) where
         on = alike p xs r .paper
 
         abbrev left : List ℤ → List ℕ → List ℕ
-        left zs more = outputLines (r .outputs) ++ finishes on (c + r .clips) (zs ++ later more .samples) (later more .refusal)
+        left zs more = outputLines (r .outputs) ++ finishes on (plus c (r .counts .clips)) (zs ++ later more .samples) (later more .refusal)
 
         -- the turn, where the run ended so
-        abbrev fed : ℕ → Result
-        fed end = afterFeed s (suc (lineEnd u)) (accepted (ran (r .state) (r .taken) (r .outputs) (r .clips) end)) (r .outputs)
+        abbrev fed : End → Result
+        fed end = afterFeed s (suc (lineEnd u)) (accepted (ran (r .state) (counts (r .counts .taken) (r .counts .written) (r .counts .clips) end) (r .outputs))) (r .outputs)
 
-        fed-still : (more : List ℕ) → still s (beside p c) (u ++ more) ≡ left (drop (r .taken) xs) more
+        fed-still : (more : List ℕ) → still s (beside p c) (u ++ more) ≡ left (drop (r .counts .taken) xs) more
         fed-still more = read-still p c (s .skip) skipped more ∙ finishes-fed p xs r (y .sync .sound .above) z c (later more .samples) (later more .refusal)
 
-        fed-beside : (end : ℕ) (bs : List ℕ) → Front (fed end .stream) bs → Beside (fed end .stream) bs on (c + r .clips)
+        fed-beside : (end : End) (bs : List ℕ) → Front (fed end .stream) bs → Beside (fed end .stream) bs on (plus c (r .counts .clips))
         fed-beside end bs front = record {
           running = refl;
           sync = z .sync;
-          outputs = ap (λ o. (o + length (r .outputs)) % 2 ^ 64) (y .outputs) ∙ mod-add-mod (p .made) (2 ^ 64) (length (r .outputs));
-          clips = ap (λ o. (o + r .clips) % 2 ^ 64) (y .clips) ∙ mod-add-mod c (2 ^ 64) (r .clips);
+          outputs = ap (λ o. (o + r .counts .written) % 2 ^ 64) (y .outputs) ∙ mod-add-mod (p .made) (2 ^ 64) (r .counts .written) ∙ ap (λ k. (p .made + k) % 2 ^ 64) w;
+          clips = ap (λ o. (o + total (r .counts .clips)) % 2 ^ 64) (y .clips) ∙ mod-add-mod (total c) (2 ^ 64) (total (r .counts .clips)) ∙ ap (λ k. k % 2 ^ 64) (sym (total-plus c (r .counts .clips)));
           front = front;
         }
 
         -- FULL keeps the line, and skips what was taken of it too; HUNGRY has used it up
-        fed-step : {m : ℕ} → Ending xs m r → Stepped s u (beside p c) ended (fed (r .end))
+        fed-step : {m : ℕ} → Ending xs m r → Stepped s u (beside p c) ended (fed (r .counts .end))
         fed-step (full a b l i) =
-            let k : s .skip + r .taken ≤ length (f .samples) = omega (arith, l, skipped, length-drop (s .skip) (f .samples)) in
+            let k : s .skip + r .counts .taken ≤ length (f .samples) = omega (arith, l, skipped, length-drop (s .skip) (f .samples)) in
             subst (λ end. Stepped s u (beside p c) ended (fed end)) (sym a)
-            (goes (beside on (c + r .clips)) (fed-beside FULL u (within e k)) tt (λ more.
+            (goes (beside on (plus c (r .counts .clips))) (fed-beside FULL u (within e k)) tt (λ more.
             fed-still more
-            ∙ ap (λ zs. left zs more) (drop-drop (r .taken) (s .skip) (f .samples))
-            ∙ ap (λ zs. outputLines (r .outputs) ++ zs) (sym (read-still on (c + r .clips) (s .skip + r .taken) k more))))
+            ∙ ap (λ zs. left zs more) (drop-drop (r .counts .taken) (s .skip) (f .samples))
+            ∙ ap (λ zs. outputLines (r .outputs) ++ zs) (sym (read-still on (plus c (r .counts .clips)) (s .skip + r .counts .taken) k more))))
         fed-step (hungry a b l i) =
             subst (λ end. Stepped s u (beside p c) ended (fed end)) (sym a)
-            (goes (beside on (c + r .clips)) (fed-beside HUNGRY (past u) (whole refl i)) tt (λ more.
+            (goes (beside on (plus c (r .counts .clips))) (fed-beside HUNGRY (past u) (whole refl i)) tt (λ more.
             fed-still more ∙ ap (λ zs. left zs more) (ap (λ k. drop k xs) l ∙ drop-length xs)))
 
     refused-still : (n : ℕ) → dataLine 64 u ≡ refused n → (zs : List ℕ) → 0 < length zs → dataLine 64 zs ≡ refused n → still s (beside p c) zs ≡ refusalLine n
     refused-still n e zs h e′ =
         let l = refusal-above (data-lines 64) u e in
         last-still y (λ f d. let i : _≡_ {A = ℕ} 0 1 = cc in omega arith) n zs (received-refused zs h e′)
-        ∙ ap (λ t. cond t (endLine (p .made) c) (refusalLine n)) (ne-eqb n 0 (λ i. omega arith))
+        ∙ ap (λ t. cond t (endLine (p .made) (total c)) (refusalLine n)) (ne-eqb n 0 (λ i. omega arith))
 
     data-step : (room : ℕ) → ended && eqb (length u) 0 ≡ false → (r : Read Frame) → dataLine 64 u ≡ r → Stepped s u (beside p c) ended (dataTurn s r u ended room)
     data-step room h (read f) e =
         let xs : List ℤ = drop (s .skip) (f .samples) in
         let n : ℕ = spaceIn room in
         let t = fed-rule (s .state) (sync-state (y .sync)) xs n in
-        rw (t .0, t .1) (fed-step e (rule xs n (s .state)) (follows xs n (s .state) p (y .sync)) (rule-ending xs n (s .state)))
+        rw (t .0, t .1) (fed-step e (rule xs n (s .state)) (follows xs n (s .state) p (y .sync)) (rule-written xs n (s .state)) (rule-ending xs n (s .state)))
     data-step room h (refused n) e = refuses-step (data-lines 64) (beside p c) y n e (λ t more e′. refused-still n e (u ++ more) (omega (arith, at-hand u ended n e h t, length-append u more)) e′)
 
     end-step : ended && eqb (length u) 0 ≡ true → Stepped s u (beside p c) ended (ends s (endLine (s .outputs) (s .clips)))
@@ -255,7 +260,7 @@ module _ (s : Stream) (u : List ℕ) (ended : Bool) where
         done refl (λ more z.
         ap (still s (beside p c)) (λ i. none-of u l i ++ z (t .0) i)
         ∙ last-still y (λ f e. omega (arith, ends-more u [] (read-ends (data-lines 64) u e) .1)) 0 [] received-none
-        ∙ sym (end-line (p .made) c)
+        ∙ sym (end-line (p .made) (total c))
         ∙ (λ i. endLine (sym (y .outputs) i) (sym (y .clips) i)))
 
   pub step : (room : ℕ) (g : Stage) → Stands s u g → Stepped s u g ended (turnOf s u ended room)

@@ -1,3 +1,3 @@
 pub mod Program
 pub mod Turn
-pub mod Whole
+pub mod WholeRun

@@ -6,18 +6,24 @@ use lib.Dec.{eqb}
 use lib.IntN.{ℤ}
 use lib.ListN.{length}
 use Rattle.integers.specs.Sample.{bits}
-use Rattle.kernels_spec.specs.Kernel.{Kernel, kernelOf}
+use Rattle.oscillator_spec.specs.Position.{oscillator}
+use Rattle.kernels_spec.specs.Kernel.{kernelOf}
+use Rattle.kernels_spec.specs.Clips.{total}
 use Rattle.kernels_spec.specs.Value.{value}
-use Rattle.converter_spec.specs.Paper.{first, count}
+use Rattle.converter_spec.specs.Paper.{positionsOver}
 use Rattle.converter_spec.specs.Demand.{clipsAt}
 use Rattle.frames_spec.specs.Line.{Read, read, refused, digitsOf, rest}
 use Rattle.frames_spec.specs.Frame.{Frame, countLimit, dataLine}
-use Rattle.frames_spec.specs.Start.{Start, startLine}
+use Rattle.frames_spec.specs.StartLine.{Start, startLine}
 
 -- ---- lines
 -- "each output as 4 digits on a line"
 unfoldable pub outputLine : ℤ → List ℕ
 outputLine y = digitsOf 4 (bits y) ++ (10 ∷ [])
+
+-- how long that is
+abbrev pub outputLength : ℕ
+outputLength = 5
 
 unfoldable pub outputLines : List ℤ → List ℕ
 outputLines [] = []
@@ -34,6 +40,10 @@ endLength = 34
 -- "`R` and two decimal digits". Byte 82 is `R`, and 48 is `0`
 unfoldable pub refusalLine : ℕ → List ℕ
 refusalLine n = 82 ∷ (48 + n / 10) ∷ (48 + n % 10) ∷ 10 ∷ []
+
+-- how long that is
+abbrev pub refusalLength : ℕ
+refusalLength = 4
 
 -- ---- input
 -- the samples of the D lines before the one that is refused, and its refusal; 0 where the input ends first
@@ -60,10 +70,6 @@ unfoldable pub received : List ℕ → Received
 received bs = receivedIn (length bs) bs
 
 -- ---- output
--- "Over n joined samples the paper has the outputs k = 0, 1, 2 and so on before the first whose b + R is n or more": where they stand, from the position q on, a word w apart
-abbrev pub positionsOver : Kernel → ℕ → ℕ → ℕ → List ℕ
-positionsOver κ w q n = first q w (count κ w q n)
-
 -- "at end of input `E`"; "A refused line gives `R` .., and the program stops without an `E` line"
 abbrev pub lastLine : ℕ → ℕ → ℕ → List ℕ
 lastLine refusal outputs clips = cond (eqb refusal 0) (endLine outputs clips) (refusalLine refusal)
@@ -72,8 +78,8 @@ lastLine refusal outputs clips = cond (eqb refusal 0) (endLine outputs clips) (r
 unfoldable pub converts : Start → Received → List ℕ
 converts k r =
     let κ = kernelOf (k .kernel) in
-    let at = positionsOver κ (k .word) (k .phase) (length (r .samples)) in
-    outputLines (map (value κ (r .samples)) at) ++ lastLine (r .refusal) (length at) (clipsAt κ (r .samples) at)
+    let at = positionsOver κ (oscillator (k .phase) (k .word)) (length (r .samples)) in
+    outputLines (map (value κ (r .samples)) at) ++ lastLine (r .refusal) (length at) (total (clipsAt κ (r .samples) at))
 
 -- "The program reads one K line and then D lines"
 abbrev pub programBy : Read Start → List ℕ → List ℕ

@@ -1,4 +1,4 @@
--- One turn of the program: what the library does with the bytes at hand. Definitions only. (`Whole.antt` says what turns come to: the program.)
+-- One turn of the program: what the library does with the bytes at hand. Definitions only. (`WholeRun.antt` says what turns come to: the program.)
 use mathlib.Core.Path.{_≡_}
 use mathlib.Core.Bool.{Bool, cond, true, false, not, _&&_}
 use mathlib.Core.List.{List, []}
@@ -7,16 +7,21 @@ use lib.Dec.{ltb, eqb}
 use lib.IntN.{ℤ}
 use lib.ListN.{length, drop}
 use Rattle.oscillator_spec.specs.declared.settings.Setting.the-variants as setting
-use Rattle.converter_spec.specs.Start.{noState, started}
-use Rattle.converter_spec.specs.Feeding.{HUNGRY, Answer, fedOf, outputsOf, over}
+use Rattle.kernels_spec.specs.Clips.{total}
+use Rattle.converter_spec.specs.declared.feeding.Fed.{Fed}
+use Rattle.converter_spec.specs.declared.feeding.End.{End}
+use Rattle.converter_spec.specs.declared.feeding.End.the-variants as end
+use Rattle.converter_state.specs.Start.{noState, started}
+use Rattle.bytes_spec.specs.Overwritten.{over}
+use Rattle.converter_spec.specs.Feeding.{fedOf, outputsOf}
 use Rattle.frames_spec.specs.Line.{lineLimit, Read, read, refused, used}
 use Rattle.frames_spec.specs.Frame.{Frame, countLimit, dataLine}
-use Rattle.frames_spec.specs.Start.{Start, startLine}
+use Rattle.frames_spec.specs.StartLine.{Start, startLine}
 use Rattle.program_spec.specs.declared.turn.Stream.{Stream}
 use Rattle.program_spec.specs.declared.turn.Turn.{Turn}
 use Rattle.program_spec.specs.declared.turn.Next.{Next}
 use Rattle.program_spec.specs.declared.turn.Next.the-variants as next
-use Rattle.program_spec.specs.Program.{outputLines, endLine, endLength, refusalLine}
+use Rattle.program_spec.specs.Program.{outputLength, outputLines, endLine, endLength, refusalLine}
 
 -- the stream before the K line
 abbrev pub opened : Stream
@@ -50,29 +55,34 @@ startTurn s (read k) bs ended = record {
 }
 startTurn s (refused n) bs ended = refuses s n (length bs) ended
 
+-- whether a feed ended HUNGRY
+abbrev pub isHungry : End → Bool
+isHungry end.Hungry = true
+isHungry end.Full = false
+
 -- a feed of a D line's samples gave the answer a and the outputs ys, the line `size` bytes long: it is used up where the feed ends HUNGRY, and else the next turn skips its samples that are
 -- taken. Counts are modulo 2^64
-abbrev pub afterFeed : Stream → ℕ → Answer → List ℤ → Result
+abbrev pub afterFeed : Stream → ℕ → Fed → List ℤ → Result
 afterFeed s size a ys = record {
   stream = record {
     state = a .state;
     started = true;
-    skip = cond (eqb (a .end) HUNGRY) 0 (s .skip + a .taken);
-    outputs = (s .outputs + a .written) % 2 ^ 64;
-    clips = (s .clips + a .clips) % 2 ^ 64;
+    skip = cond (isHungry (a .counts .end)) 0 (s .skip + a .counts .taken);
+    outputs = (s .outputs + a .counts .written) % 2 ^ 64;
+    clips = (s .clips + total (a .counts .clips)) % 2 ^ 64;
   };
-  used = cond (eqb (a .end) HUNGRY) size 0;
+  used = cond (isHungry (a .counts .end)) size 0;
   text = outputLines ys;
   next = next.Again;
 }
 
 -- the same, or the refusal 5 of a state that no run reaches
-abbrev pub feedTurn : Stream → ℕ → Answer → List ℤ → Result
+abbrev pub feedTurn : Stream → ℕ → Fed → List ℤ → Result
 feedTurn s size a ys = cond (eqb (a .refusal) 0) (afterFeed s size a ys) (ends s (refusalLine (a .refusal)))
 
 -- the outputs that so many bytes of text have room for
 abbrev pub spaceIn : ℕ → ℕ
-spaceIn room = room / 5
+spaceIn room = room / outputLength
 
 -- by the D line that the bytes begin with
 abbrev pub dataTurn : Stream → Read Frame → List ℕ → Bool → ℕ → Result

@@ -1,5 +1,5 @@
 // Where a run of the program stands, and what a turn answers. The functions stand in the crate `program`.
-use converter_spec::State;
+use converter_state::State;
 
 // Where a run stands between two turns: the converter's state once the K line is read, how many samples of the D line at the front of the unread bytes are taken, and the counts
 // of the E line.

@@ -1,14 +1,18 @@
-// The program: frame lines from standard input, outputs to standard output. It moves bytes between the system and the library `program`, which decides everything.
+// The program: frame lines from standard input, outputs to standard output. It moves bytes between the system and the library `program`, which decides everything. The contracts
+// cite the definitions of specs/: where bytes and text lie in the two buffers, that each turn is lent what is unread and adds to what waits, and that a run is a list of such turns,
+// which hands over what the program has to write (`run-writes` in proofs/RunWrites.antt). What the system's calls read and wrote no contract says.
 use libc::STDIN_FILENO;
 use libc::STDOUT_FILENO;
 use program_spec::Next;
 use program_spec::Stream;
 ghost use mathlib.Core.Path.{_≡_};
-ghost use Prim.Native.Nat.{_-_, _≤_};
-ghost use lib.ListN.{length};
+ghost use Rattle.resample.specs.Buffers.{IsBuffer, InBounds, begun, unread, waiting};
+ghost use Rattle.resample.specs.Moves.{TurnMade, TextWritten, HasRoom, RoomIfRead, MoreRead, Served, StepRight};
+ghost use Rattle.resample.specs.ProgramRun.{RunEnds};
 
-// Where the program stands: the bytes from `from` to `to` are unread, and `filled` bytes of text wait to be written.
-struct Standing {
+// Where a run stands: the bytes from `from` to `to` are unread, and the first `filled` bytes of text wait to be written. `ended` says that no more input comes, and `done` that the
+// run stops.
+struct Marks {
     stream: Stream,
     from: usize,
     to: usize,
@@ -17,11 +21,17 @@ struct Standing {
     done: bool,
 }
 
-fn begin() -> Standing
-    ensures { λ r. ⌜ (r .from ≤ r .to) × (r .to ≤ 65536) × (r .filled ≤ 65536) ⌝ }
+// The marks after a turn, and what the turn asks for.
+struct Turned {
+    marks: Marks,
+    next: Next,
+}
+
+fn begin() -> Marks
+    ensures { λ r. ⌜ r ≡ begun ⌝ }
 {
     let stream = program::open();
-    Standing {
+    Marks {
         stream: stream,
         from: 0,
         to: 0,
@@ -31,34 +41,75 @@ fn begin() -> Standing
     }
 }
 
-// Writes the text that waits. A run whose output cannot be written stops.
-fn write_text(p: Standing, text: &[u8]) -> Standing
-    requires { ⌜ (length (now text) ≡ 65536) × (p .from ≤ p .to) × (p .to ≤ 65536) × (p .filled ≤ 65536) ⌝ }
-    ensures { λ r. ⌜ (r .from ≤ r .to) × (r .to ≤ 65536) × (r .filled ≤ 65536) ⌝ }
-    ensures { λ r. ⌜ (r .stream ≡ p .stream) × (r .from ≡ p .from) × (r .to ≡ p .to) × (r .ended ≡ p .ended) × (r .filled ≡ 0) ⌝ }
+// The bytes that are unread.
+fn unread(p: Marks, bytes: &[u8]) -> &[u8]
+    requires { ⌜ InBounds p × IsBuffer (now bytes) ⌝ }
+    ensures { λ r. ⌜ now r ≡ unread p (now (bytes .entry)) ⌝ }
+{
+    let from = p.from;
+    let to = p.to;
+    &bytes[from..to]
+}
+
+// The text that waits.
+fn waiting(p: Marks, text: &[u8]) -> &[u8]
+    requires { ⌜ InBounds p × IsBuffer (now text) ⌝ }
+    ensures { λ r. ⌜ now r ≡ waiting p (now (text .entry)) ⌝ }
 {
     let filled = p.filled;
-    let written = io::write_all(STDOUT_FILENO, &text[..filled]);
-    Standing {
+    &text[..filled]
+}
+
+// Makes one turn over what is unread, whose text goes behind the text that waits.
+fn turn(p: Marks, bytes: &[u8], text: &mut [u8]) -> Turned
+    requires { ⌜ InBounds p × IsBuffer (now bytes) × IsBuffer (now text) ⌝ }
+    ensures { λ r. ⌜ InBounds (r .marks) ⌝ }
+    ensures { λ r. ⌜ RoomIfRead (r .next) (r .marks) ⌝ }
+    ensures { λ r. ⌜ TurnMade p (now (bytes .entry)) (now (text .entry)) r (now (text .exit)) ⌝ }
+{
+    let filled = p.filled;
+    let before = p.stream;
+    let made = program::make_turn(before, unread(p, bytes), p.ended, &mut text[filled..]);
+    let stream = made.stream;
+    let marks = Marks {
+        stream: stream,
+        from: p.from + made.used,
+        filled: filled + made.written,
+        ..p
+    };
+    let next = made.next;
+    Turned {
+        marks: marks,
+        next: next,
+    }
+}
+
+// Writes the text that waits. A run whose output cannot be written stops.
+fn write_text(p: Marks, text: &[u8]) -> Marks
+    requires { ⌜ InBounds p × IsBuffer (now text) ⌝ }
+    ensures { λ r. ⌜ InBounds r ⌝ }
+    ensures { λ r. ⌜ TextWritten p r ⌝ }
+{
+    let written = io::write_all(STDOUT_FILENO, waiting(p, text));
+    Marks {
         filled: 0,
         done: !written,
         ..p
     }
 }
 
-// Reads more input behind the unread bytes, of which there are fewer than 270 when a turn asks for more, so that there is room. A run whose input cannot be read stops, with no
-// last line.
-fn read_more(p: Standing, bytes: &mut [u8]) -> Standing
-    requires { ⌜ (length (now bytes) ≡ 65536) × (p .from ≤ p .to) × (p .to ≤ 65536) × (p .filled ≤ 65536) ⌝ }
-    ensures { λ r. ⌜ (r .from ≤ r .to) × (r .to ≤ 65536) × (r .filled ≤ 65536) ⌝ }
-    ensures { λ r. ⌜ (r .stream ≡ p .stream) × (r .from ≡ 0) × (p .to - p .from ≤ r .to) × (r .filled ≡ p .filled) ⌝ }
+// Reads more input behind the unread bytes. A run whose input cannot be read stops, with no last line.
+fn read_more(p: Marks, bytes: &mut [u8]) -> Marks
+    requires { ⌜ InBounds p × IsBuffer (now bytes) × HasRoom p ⌝ }
+    ensures { λ r. ⌜ InBounds r ⌝ }
+    ensures { λ r. ⌜ MoreRead p (now (bytes .entry)) r (now (bytes .exit)) ⌝ }
 {
     let to = p.to;
     program::to_front(&mut bytes[..to], p.from);
     let have = to - p.from;
     let got = libc::read(STDIN_FILENO, &mut bytes[have..]);
     let n = io::count(got, &bytes[have..]);
-    Standing {
+    Marks {
         from: 0,
         to: have + n,
         ended: n == 0,
@@ -68,9 +119,11 @@ fn read_more(p: Standing, bytes: &mut [u8]) -> Standing
 }
 
 // Reads or writes, as a turn has asked.
-fn serve(p: Standing, next: Next, bytes: &mut [u8], text: &[u8]) -> Standing
-    requires { ⌜ (length (now bytes) ≡ 65536) × (length (now text) ≡ 65536) × (p .from ≤ p .to) × (p .to ≤ 65536) × (p .filled ≤ 65536) ⌝ }
-    ensures { λ r. ⌜ (r .from ≤ r .to) × (r .to ≤ 65536) × (r .filled ≤ 65536) ⌝ }
+fn serve(p: Marks, next: Next, bytes: &mut [u8], text: &[u8]) -> Marks
+    requires { ⌜ InBounds p × IsBuffer (now bytes) × IsBuffer (now text) ⌝ }
+    requires { ⌜ RoomIfRead next p ⌝ }
+    ensures { λ r. ⌜ InBounds r ⌝ }
+    ensures { λ r. ⌜ Served next p (now (bytes .entry)) r (now (bytes .exit)) ⌝ }
 {
     match next {
         Next::Again => p,
@@ -84,35 +137,27 @@ fn serve(p: Standing, next: Next, bytes: &mut [u8], text: &[u8]) -> Standing
         Next::Write => write_text(p, text),
         Next::Done => {
             let w = write_text(p, text);
-            Standing { done: true, ..w }
+            Marks { done: true, ..w }
         }
     }
 }
 
-// Makes one turn.
-fn step(p: Standing, bytes: &mut [u8], text: &mut [u8]) -> Standing
-    requires { ⌜ (length (now bytes) ≡ 65536) × (length (now text) ≡ 65536) × (p .from ≤ p .to) × (p .to ≤ 65536) × (p .filled ≤ 65536) ⌝ }
-    ensures { λ r. ⌜ (r .from ≤ r .to) × (r .to ≤ 65536) × (r .filled ≤ 65536) ⌝ }
+// Makes one turn, and does what it asks for.
+fn step(p: Marks, bytes: &mut [u8], text: &mut [u8]) -> Marks
+    requires { ⌜ InBounds p × IsBuffer (now bytes) × IsBuffer (now text) ⌝ }
+    ensures { λ r. ⌜ InBounds r ⌝ }
+    ensures { λ r. ⌜ StepRight p (now (bytes .entry)) (now (text .entry)) r (now (bytes .exit)) (now (text .exit)) ⌝ }
 {
-    let from = p.from;
-    let to = p.to;
-    let filled = p.filled;
-    let before = p.stream;
-    let turn = program::make_turn(before, &bytes[from..to], p.ended, &mut text[filled..]);
-    let stream = turn.stream;
-    let q = Standing {
-        stream: stream,
-        from: from + turn.used,
-        filled: filled + turn.written,
-        ..p
-    };
-    let next = turn.next;
-    serve(q, next, bytes, text)
+    let turned = turn(p, bytes, text);
+    let marks = turned.marks;
+    let next = turned.next;
+    serve(marks, next, bytes, text)
 }
 
 // Steps until the run is done. A proved loop has to end, so this one counts its steps down, from a number that no run uses up.
 fn run(bytes: &mut [u8], text: &mut [u8])
-    requires { ⌜ (length (now bytes) ≡ 65536) × (length (now text) ≡ 65536) ⌝ }
+    requires { ⌜ IsBuffer (now bytes) × IsBuffer (now text) ⌝ }
+    ensures { λ _. ⌜ RunEnds (now (bytes .exit)) (now (text .exit)) ⌝ }
 {
     let mut p = begin();
     let mut steps = u64::MAX;

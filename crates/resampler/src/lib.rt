@@ -1,9 +1,5 @@
 // The C library: host calls over byte buffers. `rt staticlib resampler` makes the archive, include/resampler.h declares the calls for C, and the contracts cite the definitions of `host_spec`.
-mod block;
-mod bytes;
 mod calls;
-mod image;
-mod pass;
 
 pub use calls::resampler_feed;
 pub use calls::resampler_retune_rates;

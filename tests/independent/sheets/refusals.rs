@@ -2,6 +2,7 @@
 
 use super::{good_image, ratio, HALF, ONE};
 use crate::generate;
+use crate::image::{COUNTS, KERNEL, LENGTH, NEEDED, WINDOW, WORD, ZEROS};
 use crate::random::Random;
 use crate::settings::{Setting, LARGEST_WORD};
 use crate::sheet::Sheet;
@@ -17,7 +18,7 @@ fn mixed_settings() -> [Setting; 8] {
 pub fn start_order() -> Sheet {
     let about = "Starts with several faults at once: 1 to 4, then 5 for the image's length.";
     let mut sheet = Sheet::new("start-refusal-order", about);
-    for length in [40, 0, 39, 41, 80] {
+    for length in [LENGTH, 0, LENGTH - 1, LENGTH + 1, 2 * LENGTH] {
         for kernel in [3, 4] {
             for setting in mixed_settings() {
                 sheet.lay(vec![0xcc; length]);
@@ -35,10 +36,11 @@ fn damaged_images() -> Vec<Vec<u8>> {
         image[place] = byte;
         image
     };
-    let mut images = vec![with(2, 1), with(3, 128), with(0, 4), with(0, 255), with(1, 5)];
+    let mut images = vec![with(ZEROS, 1), with(ZEROS + 1, 128)];
+    images.extend([with(KERNEL, 4), with(KERNEL, 255), with(NEEDED, 5)]);
     // The word 0, and words above 2^34.
-    images.extend([with(12, 0), with(12, 5), with(15, 1)]);
-    images.extend([0, 39, 41].map(|length| {
+    images.extend([with(WORD + 4, 0), with(WORD + 4, 5), with(WORD + 7, 1)]);
+    images.extend([0, LENGTH - 1, LENGTH + 1].map(|length| {
         let mut image = good_image();
         image.resize(length, 0);
         image
@@ -67,7 +69,7 @@ fn try_image(sheet: &mut Sheet, image: Vec<u8>) {
 
 pub fn refused_length() -> Sheet {
     let mut sheet = Sheet::new("refused-05-image-length", "Images of other lengths than 40 bytes.");
-    for length in (0..=48).chain([64, 80, 256, 65536]) {
+    for length in (0..=LENGTH + 8).chain([64, 2 * LENGTH, 256, 65536]) {
         let mut image = good_image();
         image.resize(length, 0);
         try_image(&mut sheet, image);
@@ -80,8 +82,8 @@ pub fn refused_zeros() -> Sheet {
     let mut sheet = Sheet::new("refused-05-bytes-2-and-3", about);
     for (third, fourth) in [(1, 0), (0, 1), (128, 0), (0, 128), (255, 255), (1, 255), (0, 0)] {
         let mut image = good_image();
-        image[2] = third;
-        image[3] = fourth;
+        image[ZEROS] = third;
+        image[ZEROS + 1] = fourth;
         try_image(&mut sheet, image);
     }
     sheet
@@ -91,7 +93,7 @@ pub fn refused_kernel() -> Sheet {
     let mut sheet = Sheet::new("refused-05-kernel", "Images with every kernel, 0 to 255.");
     for kernel in 0..=255 {
         let mut image = good_image();
-        image[0] = kernel;
+        image[KERNEL] = kernel;
         sheet.lay(image);
         sheet.feed(&[1, -2, 3], 4);
     }
@@ -103,7 +105,7 @@ pub fn refused_word() -> Sheet {
     let corners = [0, 1, LARGEST_WORD, LARGEST_WORD + 1, u64::MAX, LARGEST_WORD + ONE];
     for word in corners.into_iter().chain((0..64).map(|power| 1 << power)) {
         let mut image = good_image();
-        image[8..16].copy_from_slice(&word.to_le_bytes());
+        image[WORD..WINDOW].copy_from_slice(&word.to_le_bytes());
         try_image(&mut sheet, image);
     }
     sheet
@@ -113,7 +115,7 @@ pub fn refused_needed() -> Sheet {
     let mut sheet = Sheet::new("refused-05-needed", "Images with every needed count, 0 to 255.");
     for needed in 0..=255 {
         let mut image = good_image();
-        image[1] = needed;
+        image[NEEDED] = needed;
         sheet.lay(image);
         sheet.feed(&[1, -2, 3], 4);
     }
@@ -167,8 +169,8 @@ pub fn empty_buffers() -> Sheet {
     for kernel in 0..4 {
         for needed in 0..5 {
             let mut image = good_image();
-            image[0] = kernel;
-            image[1] = needed;
+            image[KERNEL] = kernel;
+            image[NEEDED] = needed;
             sheet.lay(image);
             sheet.feed(&[], 0);
             sheet.feed(&[], 3);
@@ -210,7 +212,7 @@ pub fn counts_on_entry() -> Sheet {
     let mut random = Random(900);
     for fill in [0x00, 0x01, 0x7f, 0x80, 0xff] {
         let mut image = good_image();
-        image[24..].fill(fill);
+        image[COUNTS..].fill(fill);
         sheet.lay(image);
         sheet.retune(Setting::Word(HALF));
         sheet.feed(&[9, 8, 7, 6], 3);

@@ -151,7 +151,7 @@ pub fn wild_states(kernel: u32) -> Sheet {
                 window: generate::samples(&mut random, 4).try_into().unwrap(),
             };
             let mut image = image::encode_fresh(state);
-            image[24..].fill(random.next() as u8);
+            image[image::COUNTS..].fill(random.next() as u8);
             sheet.lay(image);
             let samples = generate::samples(&mut random, 6);
             sheet.feed(&samples, random.below(8) as usize);

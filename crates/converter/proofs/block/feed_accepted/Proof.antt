@@ -1,7 +1,7 @@
 -- `converter::block::feed_accepted` meets its contract: a pass over the window and the first samples, and where samples are still needed one over the input. Assumes nothing.
 use borrow.Author.Needs.{needs}
 use borrow.Author.Tests.{ltb-true, ltb-false}
-use mathlib.Core.Path.{_≡_, refl, sym}
+use mathlib.Core.Path.{_≡_, sym, ap, _∙_}
 use mathlib.Core.Logic.{⊎-elim}
 use mathlib.Core.List.{List}
 use Prim.Native.Nat.{_+_, _^_, _≤_, _<_}
@@ -11,10 +11,12 @@ use lib.IntN.{ℤ}
 use lib.ListN.{length, take}
 use lib.Seq.{length-take-le}
 use denote.Ref.{now}
-use Rattle.converter_spec.specs.declared.state.State.{State}
-use Rattle.converter.specs.Pass.{asSamples}
-use Rattle.converter_spec.proofs.States.{Sound, is-state}
-use Rattle.converter.proofs.Finishing.{joint, first-fed, rest-fed, totals, fed-right}
+use Rattle.converter_state.specs.declared.state.State.{State}
+use Rattle.kernels_spec.specs.Clips.{total}
+use Rattle.kernels_spec.proofs.Counting.{total-none}
+use Rattle.pass_spec.specs.Pass.{asSamples, finishing}
+use Rattle.converter_state.proofs.States.{Sound, is-state}
+use Rattle.pass_spec.proofs.Finishing.{joint, first-fed, rest-fed, totals, fed-right}
 use Rattle.converter.proofs.block.feed_accepted.Statement.{statement}
 use Rattle.converter.proofs.block.feed_accepted.Tie as tie
 
@@ -35,10 +37,13 @@ module _ (c : tie.After-head) where
   short : length (now (c .before .before .before .args .output)) < 2 ^ 63
   short = search needs
 
-  joined : take (4 + c .head .result) (c .before .join .result) ≡ joint s xs
+  abbrev front : List ℤ
+  front = take (4 + c .head .result) (c .before .join .result)
+
+  joined : front ≡ joint s xs
   joined = λ i. take (4 + c .head .ensures i) (c .before .join .ensures i)
 
-  size : length (take (4 + c .head .result) (c .before .join .result)) ≡ 4 + c .head .result
+  size : length front ≡ 4 + c .head .result
   size = length-take-le (4 + c .head .result) (c .before .join .result) (search needs)
 
 -- ---- where the second pass is made, the input has four samples, and more than the first four are needed
@@ -59,12 +64,12 @@ module _ (c : tie.After-struct-known2) where
 
 returns : tie.Need-returns
 returns c =
-    let z = c .before .before .before .before .before .before .before .before in
-    let p = c .before .before .before .before .before .pass-by in
+    let z = c .before .before .before .before .before .before .before .before .before in
+    let p = c .before .before .before .before .before .before .pass-by in
     fed-right (z .before .before .before .pre)
-    (first-fed asSamples (omega arith) (λ x. refl) (s z) (xs z) (wide z) (joined z) (p .ensures)
-    (λ h. ⊎-elim (λ t. let k = t .taken in absurd (omega (arith, size z))) (λ t. ltb-true _ _ (t .1 .taken)) (c .before .before .if1 .came))
-    (c .finish .ensures))
+    (first-fed asSamples (omega arith) (s z) (xs z) (wide z) (joined z) (p .ensures)
+    (λ h. ⊎-elim (λ t. let k = t .taken in absurd (omega (arith, size z))) (λ t. ltb-true _ _ (t .1 .taken)) (c .before .before .before .if1 .came))
+    (c .finish-over .ensures ∙ ap (finishing (s z) (front z) (p .result) 0 0) (c .before .before .no-clips .ensures)))
 
 returns-2 : tie.Need-returns-2
 returns-2 c =
@@ -72,8 +77,8 @@ returns-2 c =
     let z = start b in
     let p = first b .pass-by in
     fed-right (z .before .before .before .pre)
-    (rest-fed asSamples (omega arith) (λ x. refl) (s z) (xs z) (wide z) (joined z) (p .ensures) (omega (arith, size z, far b)) (many b) (sym (mul-one (p .result .written))) (c .before .before .pass-by2 .ensures)
-    (c .finish2 .ensures))
+    (rest-fed asSamples (omega arith) (s z) (xs z) (wide z) (joined z) (p .ensures) (omega (arith, size z, far b)) (many b) (sym (mul-one (p .result .written))) (c .before .before .pass-by2 .ensures)
+    (c .finish-over2 .ensures))
 
 join-requires : tie.Need-join-requires
 join-requires c κs = search needs
@@ -99,14 +104,19 @@ add-if1 c = let z = c .before .before .before .before .before in omega (arith, s
 array-share-prefix-joined-2 : tie.Need-array-share-prefix-joined-2
 array-share-prefix-joined-2 c = search needs
 
-slice-aggregate-finish : tie.Need-slice-aggregate-finish
-slice-aggregate-finish c = sym (size (c .before .before .before .before .before .before .before))
+no-clips-requires : tie.Need-no-clips-requires
+no-clips-requires c κs = search needs
 
-finish-requires : tie.Need-finish-requires
-finish-requires c κs =
-    let z = c .before .before .before .before .before .before .before in
-    let f = c .before .before .before .before .pass-by .ensures .stands .passed in
-    (omega (arith, size z), f .near, omega arith, omega (arith, f .fits), omega (arith, f .fits, f .few))
+slice-aggregate-finish-over : tie.Need-slice-aggregate-finish-over
+slice-aggregate-finish-over c = sym (size (c .before .before .before .before .before .before .before .before))
+
+finish-over-requires : tie.Need-finish-over-requires
+finish-over-requires c κs =
+    let z = c .before .before .before .before .before .before .before .before in
+    let f = c .before .before .before .before .before .pass-by .ensures .stands .passed in
+    let l = short z in
+    let none = ap total (c .before .no-clips .ensures) ∙ total-none in
+    (omega (arith, size z), f .near, omega arith, omega (arith, f .fits, l), omega (arith, f .fits, f .few, none, l))
 
 same-length : tie.Need-same-length
 same-length c = search needs
@@ -132,8 +142,8 @@ part-pass-by-end c = search needs
 pass-by-requires-2 : tie.Need-pass-by-requires-2
 pass-by-requires-2 c κs = let b = c .before in let h = sound (start b) in (omega (arith, h .kernel), h .below, omega (arith, far b .1), many b)
 
-finish-requires-2 : tie.Need-finish-requires-2
-finish-requires-2 c κs =
+finish-over-requires-2 : tie.Need-finish-over-requires-2
+finish-over-requires-2 c κs =
     let b = c .before .before .before in
     let q = c .before .pass-by2 .ensures in
     let t = totals asSamples (omega arith) (first b .pass-by .ensures) (sym (mul-one (first b .pass-by .result .written))) q in
@@ -154,9 +164,10 @@ feed-accepted-spec =
     slice-aggregate-pass-by
     pass-by-requires
     add-if1
+    no-clips-requires
     array-share-prefix-joined-2
-    slice-aggregate-finish
-    finish-requires
+    slice-aggregate-finish-over
+    finish-over-requires
     same-length
     returns
     sub-pass-by
@@ -166,6 +177,6 @@ feed-accepted-spec =
     part-pass-by-start
     part-pass-by-end
     pass-by-requires-2
-    finish-requires-2
+    finish-over-requires-2
     same-length-2
     returns-2)

@@ -9,14 +9,14 @@ use lib.ListN.{length, take, drop, length-set}
 use denote.Ref.{now}
 use Rattle.integers.specs.Sample.{signed}
 use Rattle.frames_spec.specs.Line.{number, field}
-use Rattle.frames_spec.specs.Frame.{samplesOf}
+use Rattle.frames_spec.specs.Frame.{frameSamples}
 use Rattle.frames_spec.proofs.Fronts.{field-right, field-below}
 use Rattle.frames_spec.proofs.Frames.{samples-length, samples-step}
 use Rattle.frames_read.proofs.data.fill.Statement.{statement}
 use Rattle.frames_read.proofs.data.fill.Tie as tie
 
 abbrev Inv-loop : tie.InvT-loop
-Inv-loop ds count samples₀ i₀ samples i = (i ≤ count) × (length samples ≡ length samples₀) × (samples ≡ samplesOf i ds ++ drop i samples₀)
+Inv-loop ds count samples₀ i₀ samples i = (i ≤ count) × (length samples ≡ length samples₀) × (samples ≡ frameSamples i ds ++ drop i samples₀)
 
 abbrev μ-loop : tie.MeasureT-loop
 μ-loop ds count samples₀ i₀ samples i = count - i
@@ -29,7 +29,7 @@ sampled : (c : tie.After-number Inv-loop μ-loop) → let h = c .before .before 
 sampled c = let h = c .before .before .before in c .number .ensures .0 ∙ ap (λ (n : ℕ). number (take n (drop (10 + h .loop .i * 4) (now (h .before .before .args .ds))))) (four (h .loop .i))
 
 loop-holds : tie.Need-loop-holds Inv-loop μ-loop
-unfolding samplesOf
+unfolding frameSamples
 loop-holds c = (search needs, refl, refl)
 
 mul-at : tie.Need-mul-at Inv-loop μ-loop

@@ -7,8 +7,8 @@ use native.Mathlib.Omega.{arith}
 use lib.Seq.{length-take-le}
 use denote.Ref.{now}
 use Rattle.oscillator_spec.specs.Word.{isWord}
-use Rattle.converter_spec.specs.Start.{isKernel}
-use Rattle.frames_spec.specs.Start.{fieldsOf, startAnswer}
+use Rattle.converter_state.specs.Start.{isKernel}
+use Rattle.frames_spec.specs.StartLine.{fieldsOf, startAnswer}
 use Rattle.frames_spec.proofs.Fronts.{field-right, field-below}
 use Rattle.frames_spec.proofs.Starts.{start-9, start-1, start-4, start-read}
 use Rattle.frames_read.proofs.start.judge_digits.Statement.{statement}

@@ -3,7 +3,7 @@ use borrow.Author.Needs.{needs}
 use mathlib.Core.Path.{sym, ap, _∙_}
 use denote.Ref.{now}
 use Rattle.frames_spec.specs.Line.{lineDigits}
-use Rattle.frames_spec.specs.Start.{startOf, startLine, startAnswer}
+use Rattle.frames_spec.specs.StartLine.{startOf, startLine, startAnswer}
 use Rattle.frames_read.proofs.Lent.{front-refused, front-follows, Lent, front-lent}
 use Rattle.frames_read.proofs.start.read_start.Statement.{statement}
 use Rattle.frames_read.proofs.start.read_start.Tie as tie

@@ -4,7 +4,7 @@ use mathlib.Core.Path.{_≡_, refl, ap, _∙_}
 use native.Mathlib.Omega.{arith}
 use denote.Ref.{now}
 use Rattle.frames_spec.specs.Line.{Read, used}
-use Rattle.frames_spec.specs.Start.{Start, startLine}
+use Rattle.frames_spec.specs.StartLine.{Start, startLine}
 use Rattle.frames_spec.proofs.Fronts.{rest-refused}
 use Rattle.frames_spec.proofs.Starts.{refusal-is, start-taken}
 use Rattle.frames_read.proofs.start.rest_start.Statement.{statement}

@@ -8,7 +8,7 @@ use mir.Syntax.{w64}
 use Rattle.integers.specs.Range.{w-in}
 use Rattle.integers.specs.Operations.{r-cast}
 use Rattle.kernels_spec.proofs.Numbers.{entry-is}
-use Rattle.kernels.proofs.Table.{coefficient-within}
+use Rattle.kernels.proofs.CoefficientTable.{coefficient-within}
 use Rattle.kernels.proofs.filter.coefficient.Statement.{statement}
 use Rattle.kernels.proofs.filter.coefficient.Tie as tie
 

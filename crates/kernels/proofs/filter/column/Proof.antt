@@ -16,7 +16,7 @@ use Rattle.integers.specs.Machine.{Known, none, _&_, whole, fits, computes}
 use Rattle.kernels_spec.specs.Kernel.{places, kernelOf}
 use Rattle.kernels_spec.specs.Value.{column}
 use Rattle.kernels.specs.Scale.{weight}
-use Rattle.kernels.proofs.Table.{coefficient-within, column-within}
+use Rattle.kernels.proofs.CoefficientTable.{coefficient-within, column-within}
 use Rattle.kernels.proofs.filter.column.Statement.{statement}
 use Rattle.kernels.proofs.filter.column.Tie as tie
 

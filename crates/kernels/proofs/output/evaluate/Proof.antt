@@ -1,10 +1,10 @@
 -- `kernels::output::evaluate` meets its contract. Assumes nothing.
 use borrow.Author.Needs.{needs}
 use mathlib.Core.Path.{_≡_, sym, _∙_, ap}
-use mathlib.Core.Bool.{Bool}
 use Prim.Native.Nat.{ℕ}
 use native.Mathlib.Omega.{arith}
 use lib.IntN.{ℤ}
+use Rattle.kernels_spec.specs.declared.clips.Clips.{Clips}
 use Rattle.kernels_spec.specs.Kernel.{Kernel, kernelOf}
 use Rattle.kernels_spec.specs.Value.{outputOf, clipOf}
 use Rattle.kernels_spec.proofs.Numbers.{cubic-above}
@@ -16,7 +16,7 @@ module _ (s : tie.Start) where
   k = s .args .kernel
 
   -- what is answered for a kernel is answered for its number
-  answer : {v : ℤ} {b : Bool} (κ : Kernel) → kernelOf k ≡ κ
+  answer : {v : ℤ} {b : Clips} (κ : Kernel) → kernelOf k ≡ κ
       → (v ≡ outputOf κ (s .args .register) (s .args .window)) × (b ≡ clipOf κ (s .args .register) (s .args .window))
       → (v ≡ outputOf (kernelOf k) (s .args .register) (s .args .window)) × (b ≡ clipOf (kernelOf k) (s .args .register) (s .args .window))
   answer κ e h =

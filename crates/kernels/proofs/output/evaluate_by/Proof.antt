@@ -12,9 +12,9 @@ use Rattle.integers.specs.Within.{Within}
 use Rattle.integers.specs.Machine.{stored, whole, i-fits}
 use Rattle.integers.specs.Operations.{elem-sfits}
 use Rattle.kernels_spec.specs.Kernel.{places, Kernel, kernelOf}
-use Rattle.kernels_spec.specs.Value.{unit, nearestWhole, rounded, held, output, outside, clips, windowAt, filterFraction, numeratorOf, outputOf, clipOf}
+use Rattle.kernels_spec.specs.Value.{unit, nearestWhole, rounded, held, output, clipsOf, clips, windowAt, filterFraction, numeratorOf, outputOf, clipOf}
 use Rattle.kernels.specs.Scale.{spare, largestNumerator}
-use Rattle.kernels_spec.proofs.Hold.{held-in, outside-in}
+use Rattle.kernels_spec.proofs.Hold.{held-in, clips-in}
 use Rattle.kernels_spec.proofs.Numbers.{reach-low}
 use Rattle.kernels.proofs.Mean.{nothing-held}
 use Rattle.kernels.proofs.output.evaluate_by.Statement.{statement}
@@ -63,13 +63,15 @@ cast-value c = subst (SFits w16) (sym (rounds (c .before))) (i-fits (inside c) t
 
 returns : tie.Need-returns
 unfolding outputOf clipOf output clips
-returns c = (toZ-ofZ (cast-value c) ∙ rounds (c .before) ∙ sym (held-in 1 (inside c)), sym (outside-in (inside c)))
+returns c =
+    let b = c .before in
+    (toZ-ofZ (cast-value b) ∙ rounds (b .before) ∙ sym (held-in 1 (inside b)), c .no-clips .ensures ∙ sym (clips-in (inside b)))
 
 returns-2 : tie.Need-returns-2
 unfolding outputOf clipOf output clips
 returns-2 c =
     let b = c .before .before in
-    (c .hold .ensures .0 ∙ ap (held 1) (rounds b), c .hold .ensures .1 ∙ ap outside (rounds b))
+    (c .hold .ensures .0 ∙ ap (held 1) (rounds b), c .hold .ensures .1 ∙ ap clipsOf (rounds b))
 
 short-numerator-requires : tie.Need-short-numerator-requires
 short-numerator-requires c κs = search needs
@@ -79,8 +81,11 @@ round-requires c κs =
     let e : stored (c .short-numerator .result) ≡ c .short-numerator .result = toZ-ofZ (sfits-of (c .short-numerator .ok)) in
     (c .before .pre .0, subst (λ (n : ℤ). Within largestNumerator (n *ℤ pos (spare (kernelOf (c .before .args .kernel))))) (sym e) (c .short-numerator .ensures .1))
 
+no-clips-requires : tie.Need-no-clips-requires
+no-clips-requires c κs = search needs
+
 hold-requires : tie.Need-hold-requires
 hold-requires c κs = search needs
 
 pub evaluate-by-spec : {M : Type 1} → statement M
-evaluate-by-spec = tie.close (tie.spec short-numerator-requires round-requires cast-value returns hold-requires returns-2)
+evaluate-by-spec = tie.close (tie.spec short-numerator-requires round-requires cast-value no-clips-requires returns hold-requires returns-2)

@@ -14,7 +14,7 @@ use Rattle.integers.specs.Range.{±_, w-in, in-w, weaken}
 use Rattle.integers.specs.Machine.{Known, none, _&_, stored, computed, fits}
 use Rattle.integers.specs.Operations.{Reads, reads, r-shr, r-cast, r-in}
 use Rattle.kernels.specs.Scale.{largestNumerator}
-use Rattle.kernels_spec.proofs.Whole.{whole-even}
+use Rattle.kernels_spec.proofs.NearestWhole.{whole-even}
 use Rattle.kernels.proofs.Scales.{linear, quadratic, cubic, w-spared}
 use Rattle.kernels.proofs.output.round.Statement.{statement}
 use Rattle.kernels.proofs.output.round.Tie as tie

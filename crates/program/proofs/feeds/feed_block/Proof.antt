@@ -8,7 +8,7 @@ use lib.IntN.{ℤ}
 use lib.ListN.{length, take, drop, length-take}
 use lib.Seq.{length-take-le}
 use denote.Ref.{now}
-use Rattle.converter_spec.specs.Feeding.{answerOf, fedOf, outputsOf}
+use Rattle.converter_spec.specs.Feeding.{fedOf, outputsOf}
 use Rattle.program_spec.specs.Program.{outputLines}
 use Rattle.program_spec.specs.Turn.{spaceIn}
 use Rattle.program.proofs.Blocks.{fed-answered, fed-written, fed-outputs}
@@ -49,16 +49,16 @@ module _ (c : tie.After-feed) where
   room : length old ≡ space
   room = long lends ∙ lends .least .ensures
 
-  answer : answerOf (c .feed .result) ≡ fedOf (start .args .state) samples space
+  answer : c .feed .result ≡ fedOf (start .args .state) samples space
   answer = fed-answered (start .args .state) samples space (c .feed .ensures) room
 
-  written : (c .feed .result .written ≡ length ys) × (length ys ≤ space)
+  written : (c .feed .result .counts .written ≡ length ys) × (length ys ≤ space)
   written = fed-written (start .args .state) samples space (c .feed .ensures) room
 
-  outputs : take (c .feed .result .written) left ≡ ys
+  outputs : take (c .feed .result .counts .written) left ≡ ys
   outputs = fed-outputs (start .args .state) samples space (c .feed .ensures) room _
 
-  count : length (take (c .feed .result .written) left) ≡ c .feed .result .written
+  count : length (take (c .feed .result .counts .written) left) ≡ c .feed .result .counts .written
   count = ap length outputs ∙ sym (written .0)
 
 outputs-block-requires : tie.Need-outputs-block-requires
@@ -77,7 +77,7 @@ feed-requires : tie.Need-feed-requires
 feed-requires c κs = search needs
 
 array-share-prefix-outputs : tie.Need-array-share-prefix-outputs
-array-share-prefix-outputs c = let z = c .before in omega (arith, count z, length-take (z .feed .result .written) (left z))
+array-share-prefix-outputs c = let z = c .before in omega (arith, count z, length-take (z .feed .result .counts .written) (left z))
 
 slice-aggregate-put-outputs : tie.Need-slice-aggregate-put-outputs
 slice-aggregate-put-outputs c = sym (count (c .before .before))

@@ -7,7 +7,8 @@ use lib.ListN.{length-set}
 use denote.Ref.{now}
 use Rattle.frames_spec.specs.Line.{digitsOf}
 use Rattle.program_spec.specs.Program.{endLine}
-use Rattle.program_spec.proofs.Lines.{none-written, byte-written, line-written, lent-length, digits-length}
+use Rattle.frames_spec.proofs.WrittenText.{none-written, byte-written, line-written, digits-length}
+use Rattle.bytes_spec.proofs.LentParts.{lent-length}
 use Rattle.program.proofs.text.put_end.Statement.{statement}
 use Rattle.program.proofs.text.put_end.Tie as tie
 

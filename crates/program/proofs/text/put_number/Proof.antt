@@ -6,7 +6,7 @@ use Prim.Native.Nat.{suc, _-_, _≤_}
 use native.Mathlib.Omega.{arith}
 use lib.ListN.{length, drop, length-set}
 use Rattle.frames_spec.specs.Line.{digitsOf}
-use Rattle.program_spec.proofs.Lines.{digit-step}
+use Rattle.frames_spec.proofs.WrittenText.{digit-step}
 use Rattle.program.proofs.text.put_number.Statement.{statement}
 use Rattle.program.proofs.text.put_number.Tie as tie
 

@@ -7,7 +7,7 @@ use lib.ListN.{drop, length-set}
 use lib.Seq.{sets-eq}
 use denote.Ref.{now}
 use Rattle.integers.specs.Sample.{bits, signed-bits}
-use Rattle.program_spec.proofs.Lines.{output-digits}
+use Rattle.program_spec.proofs.LinesWritten.{output-digits}
 use Rattle.program.proofs.text.put_output.Statement.{statement}
 use Rattle.program.proofs.text.put_output.Tie as tie
 

@@ -10,7 +10,9 @@ use lib.Seq.{take-all}
 use denote.Ref.{now}
 use mir.Facts.{toZ-ofZ}
 use Rattle.program_spec.specs.Program.{outputLine, outputLines}
-use Rattle.program_spec.proofs.Lines.{Written, none-written, line-written, written-length, lent, lent-length, output-length, outputs-more}
+use Rattle.frames_spec.proofs.WrittenText.{Written, none-written, line-written, written-length}
+use Rattle.bytes_spec.proofs.LentParts.{lent, lent-length}
+use Rattle.program_spec.proofs.LinesWritten.{output-length, outputs-more}
 use Rattle.program.proofs.text.put_outputs.Statement.{statement}
 use Rattle.program.proofs.text.put_outputs.Tie as tie
 

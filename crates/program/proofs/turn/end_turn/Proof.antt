@@ -1,7 +1,7 @@
 -- `program::turn::end_turn` meets its contract. Assumes nothing.
 use borrow.Author.Needs.{needs}
 use Rattle.program_spec.specs.Program.{endLine}
-use Rattle.program_spec.proofs.Lines.{end-length}
+use Rattle.program_spec.proofs.LinesWritten.{end-length}
 use Rattle.program.proofs.Turning.{wrote-last}
 use Rattle.program.proofs.turn.end_turn.Statement.{statement}
 use Rattle.program.proofs.turn.end_turn.Tie as tie

@@ -3,29 +3,29 @@ use borrow.Author.Needs.{needs}
 use mathlib.Core.Path.{_≡_, sym, ap, _∙_}
 use mathlib.Core.Bool.{cond, true}
 use mathlib.Core.Logic.{⊎-elim}
-use Prim.Native.Nat.{_+_, _*_}
-use lib.Dec.{eqb}
-use Rattle.converter_spec.specs.Feeding.{HUNGRY, endNumber}
+use Prim.Native.Nat.{_+_, _*_, _%_, _^_}
 use Rattle.program_spec.specs.declared.turn.Next.the-variants as next
-use Rattle.program_spec.proofs.Lines.{outputs-length}
+use Rattle.program_spec.specs.Turn.{isHungry}
+use Rattle.program_spec.proofs.LinesWritten.{outputs-length}
 use Rattle.program.proofs.turn.fed_turn.Statement.{statement}
 use Rattle.program.proofs.turn.fed_turn.Tie as tie
 
 -- by how the feed ended
-ending : (c : tie.At-match-came) → let a = c .before .args in let e = eqb (endNumber (a .fed .end)) HUNGRY in
-    (c .match .used ≡ cond e (a .size) 0) × (c .match .skip ≡ cond e 0 (a .s .skip + a .fed .taken))
+ending : (c : tie.At-match-came) → let a = c .before .before .args in let e = isHungry (a .fed .counts .end) in
+    (c .match .used ≡ cond e (a .size) 0) × (c .match .skip ≡ cond e 0 (a .s .skip + a .fed .counts .taken))
 ending c = ⊎-elim (λ t. rw (t .1 .given .1) (t .2, t .3)) (λ t. rw (t .1 .given .1) (t .4, t .5)) (c .match .came)
 
 returns : tie.Need-returns
 returns c ys l =
-    let e = ending (c .before .before .before) in
+    let z = c .before .before in
+    let e = ending (z .before .before) in
     λ i. record {
       stream = record {
-        state = c .before .before .before .before .args .fed .state;
+        state = z .before .before .before .before .args .fed .state;
         started = true;
         skip = e .1 i;
         outputs = c .before .wrapping-add-u64 .ensures i;
-        clips = c .wrapping-add-u642 .ensures i;
+        clips = (c .wrapping-add-u642 .ensures ∙ ap (λ n. (z .before .before .before .before .args .s .clips + n) % 2 ^ 64) (z .total-clips .ensures)) i;
       };
       used = e .0 i;
       written = (ap (λ n. n * 5) (sym l) ∙ sym (outputs-length ys)) i;
@@ -41,14 +41,17 @@ enum-told-2 c = search needs
 add-skip : tie.Need-add-skip
 add-skip c = search needs
 
+total-clips-requires : tie.Need-total-clips-requires
+total-clips-requires c κs = search needs
+
 wrapping-add-u64-requires : tie.Need-wrapping-add-u64-requires
 wrapping-add-u64-requires c κs = search needs
 
 wrapping-add-u64-requires-2 : tie.Need-wrapping-add-u64-requires-2
 wrapping-add-u64-requires-2 c κs = search needs
 
-mul-t14 : tie.Need-mul-t14
-mul-t14 c = search needs
+mul-t16 : tie.Need-mul-t16
+mul-t16 c = search needs
 
 pub fed-turn-spec : {M : Type 1} → statement M
-fed-turn-spec = tie.close (tie.spec enum-told enum-told-2 add-skip wrapping-add-u64-requires wrapping-add-u64-requires-2 mul-t14 returns)
+fed-turn-spec = tie.close (tie.spec enum-told enum-told-2 add-skip total-clips-requires wrapping-add-u64-requires wrapping-add-u64-requires-2 mul-t16 returns)

@@ -10,7 +10,7 @@ use denote.Ref.{now}
 use Rattle.program_spec.specs.declared.turn.Stream.{Stream}
 use Rattle.program_spec.specs.Turn.{spaceIn}
 use Rattle.program.specs.Block.{FedText}
-use Rattle.program_spec.proofs.Lines.{lent-all}
+use Rattle.bytes_spec.proofs.LentParts.{lent-all}
 use Rattle.program.proofs.Turning.{skipped, feed-sizes, feed-refuses, feed-goes}
 use Rattle.program.proofs.turn.feed_turn.Statement.{statement}
 use Rattle.program.proofs.turn.feed_turn.Tie as tie

@@ -3,7 +3,7 @@ use borrow.Author.Needs.{needs}
 use mathlib.Core.Path.{refl}
 use mathlib.Core.Logic.{⊎-elim, inl, inr}
 use Rattle.program_spec.specs.Program.{refusalLine}
-use Rattle.program_spec.proofs.Lines.{refusal-length}
+use Rattle.program_spec.proofs.LinesWritten.{refusal-length}
 use Rattle.program.proofs.Turning.{wrote-last, refuses-asks, refuses-ends}
 use Rattle.program.proofs.turn.refuses.Statement.{statement}
 use Rattle.program.proofs.turn.refuses.Tie as tie

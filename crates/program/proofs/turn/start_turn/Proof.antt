@@ -7,7 +7,7 @@ use Prim.Native.Nat.{ℕ}
 use native.Mathlib.Omega.{arith}
 use denote.Ref.{now}
 use Rattle.oscillator_spec.specs.declared.settings.Setting.the-variants as setting
-use Rattle.converter_spec.specs.Start.{started}
+use Rattle.converter_state.specs.Start.{started}
 use Rattle.frames_spec.specs.declared.answers.StartLine.{StartLine}
 use Rattle.program_spec.specs.declared.turn.Next.the-variants as next
 use Rattle.frames_spec.proofs.Starts.{start-refused, start-most}

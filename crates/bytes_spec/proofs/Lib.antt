@@ -1,0 +1,4 @@
+pub mod ByteNumbers
+pub mod Samples
+pub mod Overwriting
+pub mod LentParts

@@ -1,0 +1,33 @@
+-- Laws of buffers whose front is overwritten: what stands there then, which places keep their contents, that the length stays, what is written over the rest, and byte pairs that are written over others. Assumes nothing.
+use mathlib.Core.Path.{_≡_, ap, _∙_}
+use mathlib.Core.List.{List, _++_, append-assoc}
+use Prim.Native.Nat.{ℕ, _≤_}
+use native.Mathlib.Omega.{arith}
+use lib.IntN.{ℤ}
+use lib.ListN.{length, take, drop, length-append, length-drop}
+use lib.Seq.{take-append-seam, drop-append-seam, drop-drop}
+use Rattle.bytes_spec.specs.Bytes.{samplesOf, pairsOf}
+use Rattle.bytes_spec.specs.Overwritten.{over}
+use Rattle.bytes_spec.proofs.Samples.{AreSamples, samples-append, samples-back, pairs-long, samples-pairs}
+
+module _ {A : Type 0} (ys old : List A) where
+  pub over-front : take (length ys) (over ys old) ≡ ys
+  over-front = take-append-seam ys _
+
+  pub over-past : drop (length ys) (over ys old) ≡ drop (length ys) old
+  over-past = drop-append-seam ys _
+
+  pub over-long : length ys ≤ length old → length (over ys old) ≡ length old
+  over-long h = omega (arith, length-append ys (drop (length ys) old), length-drop (length ys) old)
+
+  -- what is written over the rest comes behind
+  pub over-rest : (zs : List A) → ys ++ over zs (drop (length ys) old) ≡ over (ys ++ zs) old
+  over-rest zs = rw (length-append ys zs, append-assoc, ← drop-drop (length zs) (length ys) old)
+
+-- byte pairs written over a buffer are samples written over its samples
+pub samples-over : (ys : List ℤ) (bs : List ℕ) → AreSamples ys → samplesOf (over (pairsOf ys) bs) ≡ over ys (samplesOf bs)
+samples-over ys bs h =
+    samples-append (pairsOf ys) (drop (length (pairsOf ys)) bs) (omega (arith, pairs-long ys))
+    ∙ ap (λ xs. xs ++ samplesOf (drop (length (pairsOf ys)) bs)) (samples-pairs ys h)
+    ∙ ap (λ n. ys ++ samplesOf (drop n bs)) (pairs-long ys)
+    ∙ ap (λ xs. ys ++ xs) (samples-back bs (length ys))

@@ -1,0 +1,22 @@
+-- What the inner functions of the host's feed promise one another. No host call's contract cites this file, and a reader of the definitions can pass it over.
+use mathlib.Core.Path.{_≡_}
+use mathlib.Core.List.{List, [], _∷_}
+use Prim.Native.Nat.{ℕ, _+_, _*_}
+use lib.ListN.{take, getD}
+use Rattle.converter_state.specs.declared.state.State.{State}
+use Rattle.pass_spec.specs.Pass.{Layout, headOf, joinedOf}
+use Rattle.bytes_spec.specs.Bytes.{samplesOf, pairOf}
+
+-- samples as they lie in the host's buffers
+abbrev pub asPairs : Layout ℕ
+asPairs = record { entries = pairOf; width = 2 }
+
+-- the eight bytes of a window and the first eight of the input, zeros where there are none
+abbrev pub joinedBytes : List ℕ → List ℕ → List ℕ
+joinedBytes ws xs =
+    getD ws 0 0 ∷ getD ws 1 0 ∷ getD ws 2 0 ∷ getD ws 3 0 ∷ getD ws 4 0 ∷ getD ws 5 0 ∷ getD ws 6 0 ∷ getD ws 7 0
+    ∷ getD xs 0 0 ∷ getD xs 1 0 ∷ getD xs 2 0 ∷ getD xs 3 0 ∷ getD xs 4 0 ∷ getD xs 5 0 ∷ getD xs 6 0 ∷ getD xs 7 0 ∷ []
+
+-- they write the window of s and the first samples of the input
+abbrev pub Joined : State → List ℕ → List ℕ → Type 0
+Joined s input joined = let n = 4 + headOf (samplesOf input) in samplesOf (take (n * 2) joined) ≡ take n (joinedOf (s .window) (samplesOf input))

@@ -1,0 +1,18 @@
+// Where a pass stands, and what one output of it comes to.
+use kernels_spec::Clips;
+
+// Where a pass stands: the next output's register, and `at`, where its window begins in the samples (past length − 4, samples are still needed); and what was written so far, with its clips.
+pub struct Progress {
+    pub register: u32,
+    pub at: usize,
+    pub written: usize,
+    pub clips: Clips,
+}
+
+// An output with its clip or none, and the output after it: its register, and by how many samples its window begins later.
+pub struct Made {
+    pub value: i16,
+    pub clips: Clips,
+    pub register: u32,
+    pub advance: usize,
+}

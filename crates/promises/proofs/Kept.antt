@@ -1,0 +1,21 @@
+-- The promises, kept: the one value of the record, by the theorems of each layer. Assumes nothing.
+use Rattle.kernels_spec.proofs.Card.{second}
+use Rattle.kernels_spec.proofs.Close.{near-paper}
+use Rattle.converter_spec.proofs.Third.{third}
+use Rattle.host_spec.proofs.ShownCalls.{on-the-state, host-third}
+use Rattle.program_spec.proofs.TurnByTurn.{whole-run}
+use Rattle.program_spec.proofs.TurnsGoOn.{turns-go-on}
+use Rattle.promises.specs.Promises.{Promises}
+use Rattle.promises.proofs.StarredExamples.{starred}
+
+pub promises : Promises
+promises = record {
+  second = second;
+  near-paper = near-paper;
+  third = third;
+  on-the-state = on-the-state;
+  host-third = host-third;
+  whole-run = whole-run;
+  turns-go-on = turns-go-on;
+  starred = starred;
+}

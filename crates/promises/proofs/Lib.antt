@@ -1,0 +1,2 @@
+pub mod StarredExamples
+pub mod Kept

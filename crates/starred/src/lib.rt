@@ -1,1 +1,0 @@
-// The starred settled examples of document 01, as one theorem about the definitions: specs/Starred.antt.
