@@ -1,4 +1,4 @@
--- `pass::output::make_output` meets its contract. Assumes nothing.
+-- `pass::one_output::make_output` meets its contract. Assumes nothing.
 use borrow.Author.Needs.{needs}
 use mathlib.Core.Path.{_∙_}
 use mir.Syntax.{w16}
@@ -6,8 +6,8 @@ use mir.Val.{SFits}
 use mir.Facts.{toZ-ofZ}
 use Rattle.oscillator_spec.specs.Register.{advanceOf}
 use Rattle.converter_spec.specs.Feeding.{advanced}
-use Rattle.pass.proofs.output.make_output.Statement.{statement}
-use Rattle.pass.proofs.output.make_output.Tie as tie
+use Rattle.pass.proofs.one_output.make_output.Statement.{statement}
+use Rattle.pass.proofs.one_output.make_output.Tie as tie
 
 evaluate-requires : tie.Need-evaluate-requires
 evaluate-requires c κs = search needs
