@@ -142,6 +142,15 @@ uint32_t resampler_retune_rates(uint8_t *image, size_t image_length, uint32_t fi
 uint32_t resampler_feed(uint8_t *image, size_t image_length, const uint8_t *input, size_t input_length,
                         uint8_t *output, size_t output_length);
 
+/* Each call is a macro of its own name too, so that #ifdef tells whether a header declares it. */
+#define resampler_start_word resampler_start_word
+#define resampler_start_ratio resampler_start_ratio
+#define resampler_start_rates resampler_start_rates
+#define resampler_retune_word resampler_retune_word
+#define resampler_retune_ratio resampler_retune_ratio
+#define resampler_retune_rates resampler_retune_rates
+#define resampler_feed resampler_feed
+
 /* Four bytes as a number, the low byte first. */
 static inline uint32_t resampler_number(const uint8_t *at)
 {

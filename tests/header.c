@@ -19,6 +19,13 @@ uint32_t resampler_feed(uint8_t *, size_t, const uint8_t *, size_t, uint8_t *, s
 }
 #endif
 
+/* Each call has a macro of its name, by which a program can ask for it. */
+#if !defined resampler_start_word || !defined resampler_start_ratio || !defined resampler_start_rates || \
+    !defined resampler_retune_word || !defined resampler_retune_ratio || !defined resampler_retune_rates || \
+    !defined resampler_feed
+#error "a call lacks its macro"
+#endif
+
 static int failed;
 
 static void check(const char *what, int holds)

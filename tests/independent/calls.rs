@@ -1,50 +1,91 @@
-//! The text format of host calls. vectors/host/README.md says what it is.
+//! The text format of host calls, by their table. vectors/README.md says what it is.
 
-use crate::host::{self, Answer, Call, Request};
-use crate::image;
-use crate::settings::Setting;
+use crate::host::{Answer, Call, Number, Role};
+use crate::image::{self, Field};
+use std::collections::BTreeMap;
 
 const WIDTH: usize = 108;
 const LONGEST_UNIT: usize = 32;
 
-/// One call with its answer. `last` is the image that the call before it left, if there is one.
-pub fn block(call: &Call, answer: &Answer, last: Option<&[u8]>) -> String {
-    let feed = matches!(call.request, Request::Feed);
-    let mut text = head(&call.request) + "\n";
-    text += &match last {
-        Some(last) if last == call.image => "image last\n".to_string(),
-        _ => field("image", &call.image),
-    };
-    if feed {
-        text += &field("input", &call.input);
-        text += &field("output", &call.output);
+/// What the call before left in the buffers that the host keeps, by name.
+pub type Left = BTreeMap<&'static str, Vec<u8>>;
+
+/// One call with its answer.
+pub fn block(call: &Call, answer: &Answer, left: &Left) -> String {
+    let mut text = head(call) + "\n";
+    let buffers = call.row.buffers.iter().zip(call.buffers.iter().zip(&answer.buffers));
+    for ((name, role), (before, _)) in buffers.clone() {
+        text += &match left.get(name) {
+            Some(last) if *role == Role::Kept && last == before => format!("{name} last\n"),
+            _ => field(name, before),
+        };
     }
     text += &format!("result {}\n", answer.result);
-    text += &after("image-after", &call.image, &answer.image);
-    if feed {
-        text += &after("output-after", &call.output, &answer.output);
+    for ((name, _), (before, after)) in buffers.filter(|((_, role), _)| *role != Role::Read) {
+        text += &match before == after {
+            true => format!("{name}-after same\n"),
+            false => field(&format!("{name}-after"), after),
+        };
     }
     text
 }
 
-fn head(request: &Request) -> String {
-    let setting = |setting: &Setting| match setting {
-        Setting::Word(word) => format!("{word}"),
-        Setting::Ratio(bits) => format!("{bits:016X}"),
-        Setting::Rates(fin, fout) => format!("{fin} {fout}"),
-    };
-    let name = host::NAMES[host::kind(request)];
-    match request {
-        Request::Feed => name.to_string(),
-        Request::Start(kernel, by, phase) => format!("{name} {kernel} {} {phase}", setting(by)),
-        Request::Retune(by) => format!("{name} {}", setting(by)),
+fn head(call: &Call) -> String {
+    let mut text = call.row.name.to_string();
+    for (number, form) in call.numbers.iter().zip(call.row.numbers) {
+        text += &match form {
+            Number::Whole => format!(" {number}"),
+            Number::Float => format!(" {number:016X}"),
+        };
     }
+    text
 }
 
-fn after(name: &str, before: &[u8], after: &[u8]) -> String {
-    match before == after {
-        true => format!("{name} same\n"),
-        false => field(name, after),
+/// Where the library's answer to a call differs first, by field, in decimal and hexadecimal.
+pub fn difference(call: &Call, expected: &Answer, found: &Answer) -> String {
+    if expected.result != found.result {
+        return format!("result: expected {}, got {}", expected.result, found.result);
+    }
+    let buffers = call.row.buffers.iter().zip(expected.buffers.iter().zip(&found.buffers));
+    for ((name, _), (expected, found)) in buffers {
+        for (field, place, size) in numbers(name, expected.len()) {
+            let (one, other) = (&expected[place..place + size], &found[place..place + size]);
+            if one != other {
+                let (one, other) = (shown(one), shown(other));
+                return format!("{field}: expected {one}, got {other}");
+            }
+        }
+    }
+    "no difference".to_string()
+}
+
+/// Buffers with fields, by name and length.
+const LAYOUTS: &[(&str, usize, &[Field])] = &[("image", image::LENGTH, &image::FIELDS)];
+
+/// The numbers in a buffer: what each is called, its place and its bytes. A buffer without fields
+/// has samples, or bytes where its length is odd.
+fn numbers(name: &str, length: usize) -> Vec<(String, usize, usize)> {
+    let Some((_, _, fields)) = LAYOUTS.iter().find(|(of, long, _)| (*of, *long) == (name, length))
+    else {
+        let size = if length % 2 == 0 { 2 } else { 1 };
+        return (0..length / size).map(|i| (format!("{name} {i}"), i * size, size)).collect();
+    };
+    let mut numbers = Vec::new();
+    for (field, place, size, count) in *fields {
+        for i in 0..*count {
+            let title = if *count == 1 { field.to_string() } else { format!("{field} {i}") };
+            numbers.push((title, place + i * size, *size));
+        }
+    }
+    numbers
+}
+
+/// A number, the low byte first; two bytes are a sample.
+fn shown(bytes: &[u8]) -> String {
+    let number = image::little(bytes);
+    match bytes.len() {
+        2 => format!("{} ({number:04X})", number as u16 as i16),
+        size => format!("{number} ({number:0width$X})", width = 2 * size),
     }
 }
 
@@ -69,11 +110,9 @@ fn parts(bytes: &[u8]) -> Vec<String> {
     if bytes.is_empty() {
         return vec!["-".to_string()];
     }
-    if bytes.len() == image::LENGTH {
-        let fields = [image::KERNEL, image::NEEDED, image::ZEROS, image::REGISTER, image::WORD];
-        let counts = [0, 4, 8, 12, 16].map(|place| image::COUNTS + place);
-        let places = [&fields[..], &[image::WINDOW], &counts].concat();
-        return places.windows(2).map(|pair| digits(&bytes[pair[0]..pair[1]])).collect();
+    if let Some((_, _, fields)) = LAYOUTS.iter().find(|(_, length, _)| *length == bytes.len()) {
+        let part = |&(_, place, size, count): &Field| digits(&bytes[place..place + size * count]);
+        return fields.iter().map(part).collect();
     }
     let (mut parts, mut place, mut plain) = (Vec::new(), 0, 0);
     while place < bytes.len() {

@@ -1,16 +1,16 @@
-//! The comparison of the archive with the implementation and with the paper's run, over random
-//! chains of calls.
+//! The comparison of a library with the implementation and with the paper's run, over random chains
+//! of calls.
 
-use crate::archive::Archive;
-use crate::calls;
-use crate::generate;
+use crate::calls::{self, Left};
+use crate::generate::{self, Start};
 use crate::halves;
-use crate::host::{self, Answer, Call, Request};
+use crate::host::{self, Answer, Call};
 use crate::image;
-use crate::kernels;
-use crate::paper::{Page, Paper};
+use crate::judge;
+use crate::library::Library;
+use crate::paper::Paper;
 use crate::random::Random;
-use crate::state::End;
+use crate::settings::Setting;
 use crate::tally::Tally;
 
 /// How much to compare: chains are made until both numbers are reached.
@@ -23,7 +23,7 @@ pub struct Amount {
 /// Compares, prints the tables, and says what the first difference is, if there is one.
 pub fn run(amount: &Amount) -> Result<(), String> {
     let mut comparison = Comparison {
-        archive: Archive::default(),
+        library: Library::new(),
         random: Random(amount.seed),
         tally: Tally::default(),
     };
@@ -36,11 +36,14 @@ pub fn run(amount: &Amount) -> Result<(), String> {
         comparison.chain()?;
     }
     comparison.tally.print();
-    comparison.reached()
+    comparison.tally.complete()?;
+    let (calls, outputs) = (comparison.tally.total_calls(), comparison.tally.outputs());
+    println!("{calls} calls agree, with {outputs} outputs; 0 differ");
+    Ok(())
 }
 
 struct Comparison {
-    archive: Archive,
+    library: Library,
     random: Random,
     tally: Tally,
 }
@@ -54,6 +57,14 @@ struct Chain {
     fresh: bool,
 }
 
+impl Chain {
+    /// From an image that need not come from a start.
+    fn stored(image: Vec<u8>) -> Chain {
+        let paper = image::decode(&image).ok().map(|state| Paper::resume(&state));
+        Chain { image, paper, fresh: false }
+    }
+}
+
 impl Comparison {
     /// Single outputs from stored states that are hard to round.
     fn halves(&mut self) -> Result<(), String> {
@@ -61,10 +72,8 @@ impl Comparison {
             let mut states = halves::exact(&mut self.random, kernel, 1000);
             states.extend(halves::narrow(&mut self.random, kernel));
             for state in states {
-                let paper = Some(Paper::resume(&state));
-                let mut chain = Chain { image: image::encode_fresh(state), paper, fresh: false };
-                let (image, output) = (chain.image.clone(), vec![0; 2]);
-                let call = Call { request: Request::Feed, image, input: Vec::new(), output };
+                let mut chain = Chain::stored(image::encode_fresh(state));
+                let call = host::feed(chain.image.clone(), Vec::new(), vec![0; 2]);
                 self.feed(&mut chain, &call)?;
             }
         }
@@ -78,11 +87,10 @@ impl Comparison {
         if random.one_in(8) {
             image = generate::damaged_image(random, &image);
         }
-        let paper = image::decode(&image).ok().map(|state| Paper::resume(&state));
-        let mut chain = Chain { image, paper, fresh: false };
+        let mut chain = Chain::stored(image);
         if !self.random.one_in(4) {
-            let request = generate::good_start(&mut self.random);
-            self.start(&mut chain, request)?;
+            let start = generate::good_start(&mut self.random);
+            self.start(&mut chain, start)?;
         }
         for _ in 0..1 + self.random.below(40) {
             self.step(&mut chain)?;
@@ -98,12 +106,12 @@ impl Comparison {
                 self.feed(chain, &call)
             }
             20..=24 => {
-                let request = Request::Retune(generate::setting(random));
-                self.retune(chain, request)
+                let setting = generate::setting(random);
+                self.retune(chain, setting)
             }
             25 => {
-                let request = generate::start(random);
-                self.start(chain, request)
+                let start = generate::start(random);
+                self.start(chain, start)
             }
             26 => {
                 let call = generate::bad_feed(random, &chain.image);
@@ -120,79 +128,51 @@ impl Comparison {
         let call = match random.below(4) {
             0 => generate::feed(random, &damaged),
             1 => generate::bad_feed(random, &damaged),
-            2 => plain(Request::Retune(generate::setting(random)), damaged),
+            2 => host::retune(damaged, generate::setting(random)),
             _ => {
-                let request = generate::start(random);
-                plain(request, generate::wrong_length(random, damaged))
+                let (kernel, setting, phase) = generate::start(random);
+                host::start(generate::wrong_length(random, damaged), kernel, setting, phase)
             }
         };
         self.answer(&call).map(|_| ())
     }
 
-    fn start(&mut self, chain: &mut Chain, request: Request) -> Result<(), String> {
-        let answer = self.answer(&plain(request, chain.image.clone()))?;
-        if let (0, Request::Start(kernel, setting, phase)) = (answer.result, request) {
+    fn start(&mut self, chain: &mut Chain, start: Start) -> Result<(), String> {
+        let (kernel, setting, phase) = start;
+        let answer = self.answer(&host::start(chain.image.clone(), kernel, setting, phase))?;
+        if answer.result == 0 {
             chain.paper = Paper::start(kernel, setting, phase);
             chain.fresh = true;
         }
-        chain.image = answer.image;
+        chain.image = answer.buffers[0].clone();
         Ok(())
     }
 
-    fn retune(&mut self, chain: &mut Chain, request: Request) -> Result<(), String> {
-        let answer = self.answer(&plain(request, chain.image.clone()))?;
-        if let (Some(paper), Request::Retune(setting)) = (&mut chain.paper, request) {
-            paper.retune(setting);
+    fn retune(&mut self, chain: &mut Chain, setting: Setting) -> Result<(), String> {
+        let call = host::retune(chain.image.clone(), setting);
+        let answer = self.answer(&call)?;
+        chain.image = answer.buffers[0].clone();
+        if let (Some(paper), Ok(state)) = (&mut chain.paper, image::decode(&chain.image)) {
+            judge::retune(paper, setting, &state)
+                .map_err(|what| described(&what, &call, &answer))?;
         }
-        chain.image = answer.image;
         Ok(())
     }
 
+    /// A feed is held to demand 3 too, from a stored state as from a start.
     fn feed(&mut self, chain: &mut Chain, call: &Call) -> Result<(), String> {
         let answer = self.answer(call)?;
+        chain.image = answer.buffers[0].clone();
         if let Some(paper) = &mut chain.paper {
-            let page = paper.feed(&host::samples(&call.input), call.output.len() / 2);
-            let kernel = &mut self.tally.kernels[paper.kernel() as usize];
-            match chain.fresh {
-                true => kernel.fresh += page.made as u64,
-                false => kernel.stored += page.made as u64,
-            }
-            if let Err(difference) = self.hold(paper, &page, &answer) {
-                return Err(format!("{difference}\n{}", described(call, &answer)));
-            }
-        }
-        chain.image = answer.image;
-        Ok(())
-    }
-
-    /// Holds a feed of the archive against the paper's: counts, end, and every output.
-    fn hold(&mut self, paper: &Paper, page: &Page, answer: &Answer) -> Result<(), String> {
-        let [taken, written, _, end] = image::counts(&answer.image).map(|count| count as usize);
-        let paper_end = (page.end == End::Full) as usize;
-        if (answer.result, taken, written, end) != (0, page.joined, page.made, paper_end) {
-            return Err(format!(
-                "the paper joins {} samples, makes {} outputs and ends {:?}; the archive does not",
-                page.joined, page.made, page.end
-            ));
-        }
-        for (k, output) in host::samples(&answer.output[..2 * written]).into_iter().enumerate() {
-            let position = paper.position(page, k);
-            let value = paper.output(position);
-            if value != output {
-                return Err(format!(
-                    "output {k} of the feed is {output}; at the paper's basepoint and m it is {value}"
-                ));
-            }
-            let distance = paper.distance(position, output);
-            self.tally.hold(paper.kernel(), &distance);
-            if distance.is > distance.may_be {
-                let scale = kernels::scale(paper.kernel(), 32);
-                return Err(format!(
-                    "output {k} of the feed, {output}, lies {}/{scale} from the paper's value; \
-                     it may lie {}/{scale}",
-                    distance.is, distance.may_be
-                ));
-            }
+            let kernel = paper.kernel();
+            let (input, output) =
+                (host::samples(&call.buffers[1]), host::samples(&answer.buffers[2]));
+            let told = |what: &str| described(what, call, &answer);
+            let fed = image::fed(&chain.image).map_err(|_| told("the image left is refused"))?;
+            let seen = |distance: &_| self.tally.hold(kernel, distance);
+            judge::feed(paper, &input, &output[..fed.written], output.len(), &fed, seen)
+                .map_err(|what| told(&what))?;
+            self.tally.fed(&fed, chain.fresh);
         }
         Ok(())
     }
@@ -200,69 +180,19 @@ impl Comparison {
     /// Makes a call on both sides and compares what they answer and leave.
     fn answer(&mut self, call: &Call) -> Result<Answer, String> {
         let expected = host::answer(call);
-        match self.archive.answer(call) {
-            Ok(answer) if answer == expected => {
-                self.tally.count(call, &answer);
-                Ok(answer)
-            }
-            Ok(answer) => Err(format!(
-                "{}\n{}the archive:\n{}",
-                difference(&expected, &answer),
-                described(call, &expected),
-                calls::block(call, &answer, None)
-            )),
-            Err(what) => Err(format!("{what}\n{}", described(call, &expected))),
+        let answer = self.library.answer(call).map_err(|what| described(&what, call, &expected))?;
+        if answer != expected {
+            let what = calls::difference(call, &expected, &answer);
+            let found = calls::block(call, &answer, &Left::new());
+            let told = described(&what, call, &expected);
+            return Err(format!("{told}the library:\n{found}{what}"));
         }
-    }
-
-    /// A comparison that misses a kernel, an end, an outermost word or a refusal says nothing: that is an error too.
-    fn reached(&self) -> Result<(), String> {
-        let calls = &self.tally.calls;
-        let wanted: [&[usize]; 7] = [
-            &[0, 5, 12],
-            &[0, 1, 4, 5],
-            &[0, 1, 2, 4, 5],
-            &[0, 1, 3, 4, 5],
-            &[0, 4, 5],
-            &[0, 2, 4, 5],
-            &[0, 3, 4, 5],
-        ];
-        for (kind, answers) in wanted.iter().enumerate() {
-            if let Some(answer) = answers.iter().find(|&&answer| calls[kind][answer] == 0) {
-                let name = host::NAMES[kind];
-                return Err(format!("no {name} was answered with {answer}: compare more calls"));
-            }
-        }
-        for (number, kernel) in self.tally.kernels.iter().enumerate() {
-            if !kernel.complete(number == 0) {
-                return Err(format!("kernel {number} was not reached in all ways: compare more"));
-            }
-        }
-        Ok(())
+        self.tally.count(call, &answer);
+        Ok(answer)
     }
 }
 
-/// A call that is lent an image only.
-fn plain(request: Request, image: Vec<u8>) -> Call {
-    Call { request, image, input: Vec::new(), output: Vec::new() }
-}
-
-/// Where two answers to a call differ first.
-fn difference(expected: &Answer, archive: &Answer) -> String {
-    if expected.result != archive.result {
-        return format!("the result is {}, expected {}", archive.result, expected.result);
-    }
-    let buffers =
-        [("image", &expected.image, &archive.image), ("output", &expected.output, &archive.output)];
-    for (name, expected, archive) in buffers {
-        if let Some(place) = (0..expected.len()).find(|&place| expected[place] != archive[place]) {
-            let (is, should) = (archive[place], expected[place]);
-            return format!("byte {place} of the {name} is {is:02X}, expected {should:02X}");
-        }
-    }
-    "no difference".to_string()
-}
-
-fn described(call: &Call, expected: &Answer) -> String {
-    format!("the call, with what is expected:\n{}", calls::block(call, expected, None))
+fn described(what: &str, call: &Call, expected: &Answer) -> String {
+    let block = calls::block(call, expected, &Left::new());
+    format!("{what}\nthe call, with what is expected:\n{block}")
 }

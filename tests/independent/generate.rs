@@ -1,6 +1,6 @@
 //! Random arguments for the calls: settings, samples, lengths and images, with the corners.
 
-use crate::host::{self, Call, Request, LARGEST_BUFFER};
+use crate::host::{self, Call, LARGEST_BUFFER};
 use crate::image;
 use crate::random::Random;
 use crate::settings::{Setting, LARGEST_WORD};
@@ -102,18 +102,21 @@ pub fn phase(random: &mut Random) -> u32 {
     }
 }
 
-pub fn start(random: &mut Random) -> Request {
+/// What a start is given: kernel, setting and phase.
+pub type Start = (u32, Setting, u32);
+
+pub fn start(random: &mut Random) -> Start {
     let kernel = match random.below(12) {
         0 => random.pick(&[4, 5, 255, 256, 259, 1 << 16, 1 << 31, u32::MAX]),
         _ => random.below(4) as u32,
     };
-    Request::Start(kernel, setting(random), phase(random))
+    (kernel, setting(random), phase(random))
 }
 
 /// A start that is accepted.
-pub fn good_start(random: &mut Random) -> Request {
+pub fn good_start(random: &mut Random) -> Start {
     let setting = Setting::Word(good_word(random));
-    Request::Start(random.below(4) as u32, setting, phase(random))
+    (random.below(4) as u32, setting, phase(random))
 }
 
 /// A number of samples from 0 to 32,768: every magnitude, and the corners.
@@ -157,12 +160,7 @@ pub fn feed(random: &mut Random, image: &[u8]) -> Call {
         0 => vec![0xee; 2 * written],
         _ => random.bytes(2 * written),
     };
-    Call {
-        request: Request::Feed,
-        image: image.to_vec(),
-        input: host::bytes(&samples(random, taken)),
-        output,
-    }
+    host::feed(image.to_vec(), host::bytes(&samples(random, taken)), output)
 }
 
 /// A feed with a buffer, or both, of a length that is refused.
@@ -170,7 +168,7 @@ pub fn bad_feed(random: &mut Random, image: &[u8]) -> Call {
     let mut call = feed(random, image);
     let which = random.below(3);
     let largest = LARGEST_BUFFER as u64;
-    for (buffer, spoilt) in [(&mut call.input, which != 1), (&mut call.output, which != 0)] {
+    for (buffer, spoilt) in call.buffers[1..].iter_mut().zip([which != 1, which != 0]) {
         let length = match random.below(4) {
             0 => largest + random.pick(&[1, 2, 3, 4]),
             1 => largest + 1 + random.below(70000),

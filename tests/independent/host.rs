@@ -1,111 +1,183 @@
-//! The host calls over bytes: what each must answer, and leave in its buffers.
+//! The host calls over bytes, by table: a call is its name, its numbers, the buffers that it is lent
+//! and which of them it may write, what it must answer, and how it is made in C.
 
 use crate::image;
 use crate::settings::Setting;
 use crate::state;
 
-/// What is called, with the numbers that it is given.
-#[derive(Clone, Copy, Debug)]
-pub enum Request {
-    Feed,
-    Start(u32, Setting, u32),
-    Retune(Setting),
+/// How a number is written: in decimal, or a float as the 16 digits of its bits.
+#[derive(Clone, Copy)]
+pub enum Number {
+    Whole,
+    Float,
 }
 
-/// One call with its buffers as they are lent. Start and retune use the image only.
-#[derive(Clone, Debug)]
+/// What a buffer is to a call: kept by the host from call to call, read only, or written only.
+#[derive(Clone, Copy, PartialEq, Eq)]
+pub enum Role {
+    Kept,
+    Read,
+    Written,
+}
+
+pub struct Row {
+    pub name: &'static str,
+    pub numbers: &'static [Number],
+    pub buffers: &'static [(&'static str, Role)],
+    /// The answers that a comparison has to meet.
+    pub answers: &'static [u32],
+    /// What an accepted call leaves in its buffers, or the refusal.
+    accept: fn(&Call) -> Result<Vec<Vec<u8>>, u32>,
+    #[cfg(library)]
+    pub make: fn(&[u64], &[crate::library::Lent]) -> u32,
+}
+
+/// One call with its buffers as they are lent.
+#[derive(Clone)]
 pub struct Call {
-    pub request: Request,
-    pub image: Vec<u8>,
-    pub input: Vec<u8>,
-    pub output: Vec<u8>,
+    pub row: &'static Row,
+    pub numbers: Vec<u64>,
+    pub buffers: Vec<Vec<u8>>,
 }
 
-/// What a call returns, and what it leaves in the buffers that it may write.
-#[derive(Clone, Debug, PartialEq, Eq)]
+/// What a call returns, and its buffers as it leaves them.
+#[derive(Clone, PartialEq, Eq)]
 pub struct Answer {
     pub result: u32,
-    pub image: Vec<u8>,
-    pub output: Vec<u8>,
+    pub buffers: Vec<Vec<u8>>,
+}
+
+use {Number::*, Role::*};
+
+const IMAGE: &[(&str, Role)] = &[("image", Kept)];
+const FEED: &[(&str, Role)] = &[("image", Kept), ("input", Read), ("output", Written)];
+
+/// A row: name, numbers, buffers, the answers to meet, what is accepted; and the call in C, each
+/// argument with its type, where n[i] is a number and b[i] a buffer.
+macro_rules! rows {
+    (|$n:ident, $b:ident| $($name:ident, $numbers:expr, $buffers:expr, $answers:expr, $accept:expr,
+        $symbol:ident($($value:expr => $kind:ty),*);)*) => {
+        #[allow(unused_variables)] // of a call without numbers
+        pub static ROWS: &[Row] = &[$(Row {
+            name: stringify!($name),
+            numbers: $numbers,
+            buffers: $buffers,
+            answers: $answers,
+            accept: $accept,
+            #[cfg(library)]
+            make: |$n, $b| {
+                extern "C" {
+                    fn $symbol($(_: $kind),*) -> u32;
+                }
+                // Safe: the buffers are those that `Library::answer` lends.
+                unsafe { $symbol($($value),*) }
+            },
+        }),*];
+    };
+}
+
+rows! { |n, b|
+    feed, &[], FEED, &[0, 5, 12], fed,
+        resampler_feed(b[0].at => *mut u8, b[0].length => usize, b[1].at => *const u8,
+            b[1].length => usize, b[2].at => *mut u8, b[2].length => usize);
+    start_word, &[Whole; 3], IMAGE, &[0, 1, 4, 5],
+        |call| started(call, Setting::Word(call.numbers[1])),
+        resampler_start_word(b[0].at => *mut u8, b[0].length => usize, n[0] as u32 => u32,
+            n[1] => u64, n[2] as u32 => u32);
+    start_ratio, &[Whole, Float, Whole], IMAGE, &[0, 1, 2, 4, 5],
+        |call| started(call, Setting::Ratio(call.numbers[1])),
+        resampler_start_ratio(b[0].at => *mut u8, b[0].length => usize, n[0] as u32 => u32,
+            f64::from_bits(n[1]) => f64, n[2] as u32 => u32);
+    start_rates, &[Whole; 4], IMAGE, &[0, 1, 3, 4, 5],
+        |call| started(call, rates(&call.numbers[1..3])),
+        resampler_start_rates(b[0].at => *mut u8, b[0].length => usize, n[0] as u32 => u32,
+            n[1] as u32 => u32, n[2] as u32 => u32, n[3] as u32 => u32);
+    retune_word, &[Whole], IMAGE, &[0, 4, 5],
+        |call| retuned(call, Setting::Word(call.numbers[0])),
+        resampler_retune_word(b[0].at => *mut u8, b[0].length => usize, n[0] => u64);
+    retune_ratio, &[Float], IMAGE, &[0, 2, 4, 5],
+        |call| retuned(call, Setting::Ratio(call.numbers[0])),
+        resampler_retune_ratio(b[0].at => *mut u8, b[0].length => usize,
+            f64::from_bits(n[0]) => f64);
+    retune_rates, &[Whole; 2], IMAGE, &[0, 3, 4, 5], |call| retuned(call, rates(&call.numbers)),
+        resampler_retune_rates(b[0].at => *mut u8, b[0].length => usize, n[0] as u32 => u32,
+            n[1] as u32 => u32);
+}
+
+/// A call of a row, by the row's name.
+fn call(name: &str, numbers: Vec<u64>, buffers: Vec<Vec<u8>>) -> Call {
+    let row = ROWS.iter().find(|row| row.name == name).expect(name);
+    Call { row, numbers, buffers }
+}
+
+pub fn feed(image: Vec<u8>, input: Vec<u8>, output: Vec<u8>) -> Call {
+    call("feed", Vec::new(), vec![image, input, output])
+}
+
+pub fn start(image: Vec<u8>, kernel: u32, setting: Setting, phase: u32) -> Call {
+    let (form, numbers) = parts(setting);
+    let numbers = [&[kernel as u64], &numbers[..], &[phase as u64]].concat();
+    call(&format!("start_{form}"), numbers, vec![image])
+}
+
+pub fn retune(image: Vec<u8>, setting: Setting) -> Call {
+    let (form, numbers) = parts(setting);
+    call(&format!("retune_{form}"), numbers, vec![image])
+}
+
+/// The end of a call's name by the form of a setting, and the setting's numbers.
+fn parts(setting: Setting) -> (&'static str, Vec<u64>) {
+    match setting {
+        Setting::Word(word) => ("word", vec![word]),
+        Setting::Ratio(bits) => ("ratio", vec![bits]),
+        Setting::Rates(fin, fout) => ("rates", vec![fin as u64, fout as u64]),
+    }
+}
+
+fn rates(numbers: &[u64]) -> Setting {
+    Setting::Rates(numbers[0] as u32, numbers[1] as u32)
+}
+
+/// The answer that document 01 asks for. A refused call leaves every buffer as it came.
+pub fn answer(call: &Call) -> Answer {
+    match (call.row.accept)(call) {
+        Ok(buffers) => Answer { result: 0, buffers },
+        Err(result) => Answer { result, buffers: call.buffers.clone() },
+    }
+}
+
+/// Refusals 1 to 4, then 5: "The lowest that applies is returned". The phase is the last number.
+fn started(call: &Call, setting: Setting) -> Result<Vec<Vec<u8>>, u32> {
+    let phase = call.numbers[call.numbers.len() - 1] as u32;
+    let state = state::start(call.numbers[0] as u32, setting, phase)?;
+    if call.buffers[0].len() != image::LENGTH {
+        return Err(5);
+    }
+    Ok(vec![image::encode_fresh(state)])
+}
+
+/// "retune tests 5 first"; "Retune replaces the word only."
+fn retuned(call: &Call, setting: Setting) -> Result<Vec<Vec<u8>>, u32> {
+    let mut image = call.buffers[0].clone();
+    let word = state::retune(image::decode(&image)?, setting)?.word;
+    image[image::WORD..image::WINDOW].copy_from_slice(&word.to_le_bytes());
+    Ok(vec![image])
 }
 
 /// "12: host sample buffer of odd length or above 65,536 bytes"
 pub const LARGEST_BUFFER: usize = 65536;
 
-/// The names of the calls in C, in the order of `kind`.
-pub const NAMES: [&str; 7] = [
-    "feed",
-    "start_word",
-    "start_ratio",
-    "start_rates",
-    "retune_word",
-    "retune_ratio",
-    "retune_rates",
-];
-
-/// Which of `NAMES` a request calls.
-pub fn kind(request: &Request) -> usize {
-    let by = |setting: &Setting| match setting {
-        Setting::Word(_) => 0,
-        Setting::Ratio(_) => 1,
-        Setting::Rates(_, _) => 2,
-    };
-    match request {
-        Request::Feed => 0,
-        Request::Start(_, setting, _) => 1 + by(setting),
-        Request::Retune(setting) => 4 + by(setting),
-    }
-}
-
-/// The answer that document 01 asks for. A refused call leaves every buffer as it came.
-pub fn answer(call: &Call) -> Answer {
-    let done = match call.request {
-        Request::Feed => feed(call),
-        Request::Start(kernel, setting, phase) => start(call, kernel, setting, phase),
-        Request::Retune(setting) => retune(call, setting),
-    };
-    done.unwrap_or_else(|result| Answer {
-        result,
-        image: call.image.clone(),
-        output: call.output.clone(),
-    })
-}
-
-fn accepted(call: &Call, image: Vec<u8>) -> Result<Answer, u32> {
-    Ok(Answer { result: 0, image, output: call.output.clone() })
-}
-
-/// Refusals 1 to 4, then 5: "The lowest that applies is returned".
-fn start(call: &Call, kernel: u32, setting: Setting, phase: u32) -> Result<Answer, u32> {
-    let state = state::start(kernel, setting, phase)?;
-    if call.image.len() != image::LENGTH {
-        return Err(5);
-    }
-    accepted(call, image::encode_fresh(state))
-}
-
-/// "retune tests 5 first"; "Retune replaces the word only."
-fn retune(call: &Call, setting: Setting) -> Result<Answer, u32> {
-    let word = state::retune(image::decode(&call.image)?, setting)?.word;
-    let mut image = call.image.clone();
-    image[image::WORD..image::WORD + 8].copy_from_slice(&word.to_le_bytes());
-    accepted(call, image)
-}
-
 /// "The host call feeds from an input buffer to an output buffer and, when accepted, writes the
 /// whole image anew; output bytes past those written keep their contents."
-fn feed(call: &Call) -> Result<Answer, u32> {
-    let state = image::decode(&call.image)?;
-    for buffer in [&call.input, &call.output] {
-        if buffer.len() % 2 == 1 || buffer.len() > LARGEST_BUFFER {
-            return Err(12);
-        }
+fn fed(call: &Call) -> Result<Vec<Vec<u8>>, u32> {
+    let [image, input, output] = &call.buffers[..] else { panic!("a feed has three buffers") };
+    let state = image::decode(image)?;
+    if [input, output].iter().any(|buffer| buffer.len() % 2 == 1 || buffer.len() > LARGEST_BUFFER) {
+        return Err(12);
     }
-    let mut places = samples(&call.output);
-    let fed = state::feed(state, &samples(&call.input), &mut places)?;
-    let mut answer = accepted(call, image::encode(&fed))?;
-    answer.output = bytes(&places);
-    Ok(answer)
+    let mut places = samples(output);
+    let fed = state::feed(state, &samples(input), &mut places)?;
+    Ok(vec![image::encode(&fed), input.clone(), bytes(&places)])
 }
 
 /// "The host's samples are byte pairs, little-endian."

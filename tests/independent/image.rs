@@ -12,6 +12,22 @@ pub const WORD: usize = 8;
 pub const WINDOW: usize = 16;
 pub const COUNTS: usize = 24;
 
+/// A field of a buffer: its name, its place, the bytes of a number, and how many numbers it has.
+pub type Field = (&'static str, usize, usize, usize);
+
+pub const FIELDS: [Field; 10] = [
+    ("kernel", KERNEL, 1, 1),
+    ("needed", NEEDED, 1, 1),
+    ("zeros", ZEROS, 2, 1),
+    ("register", REGISTER, 4, 1),
+    ("word", WORD, 8, 1),
+    ("window", WINDOW, 2, 4),
+    ("taken", COUNTS, 4, 1),
+    ("written", COUNTS + 4, 4, 1),
+    ("clips", COUNTS + 8, 4, 1),
+    ("end", COUNTS + 12, 4, 1),
+];
+
 /// The state in an image, or refusal 5: "image not 40 bytes or bytes 2, 3 not zero", or a state
 /// that is refused. Taken, written, clips and end are "anything on entry".
 pub fn decode(image: &[u8]) -> Result<State, u32> {
@@ -64,6 +80,13 @@ pub fn counts(image: &[u8]) -> [u32; 4] {
     [0, 4, 8, 12].map(|place| little(&image[COUNTS + place..][..4]) as u32)
 }
 
-fn little(bytes: &[u8]) -> u64 {
+/// What a feed left in an image, if that is a state that is accepted.
+pub fn fed(image: &[u8]) -> Result<Fed, u32> {
+    let [taken, written, clips, end] = counts(image).map(|count| count as usize);
+    let end = if end == 1 { End::Full } else { End::Hungry };
+    Ok(Fed { state: decode(image)?, taken, written, clips, end })
+}
+
+pub fn little(bytes: &[u8]) -> u64 {
     bytes.iter().rev().fold(0, |sum, &byte| sum << 8 | byte as u64)
 }

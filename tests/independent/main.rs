@@ -1,34 +1,53 @@
 //! An implementation of document 01 that shares nothing with the library, and the comparison of
 //! both. Every command first runs the settled examples.
+//! `compare` is there where it is built with `--cfg library` and linked with a library.
 
-mod archive;
+#![cfg_attr(not(library), allow(dead_code))]
+
 mod calls;
+mod cases;
+#[cfg(library)]
 mod compare;
+mod draw;
 mod frames;
 mod generate;
 mod halves;
 mod host;
 mod image;
+mod judge;
 mod kernels;
+#[cfg(library)]
+mod library;
+mod listings;
 mod oscillator;
 mod paper;
 mod processes;
 mod program;
 mod random;
+mod runs;
 mod settings;
 mod settled;
-mod sheet;
 mod sheets;
 mod state;
+#[cfg(library)]
 mod tally;
+mod values;
 mod vectors;
 
 use std::process::ExitCode;
 
 const USAGE: &str = "usage:
-  independent compare [--outputs N] [--calls N] [--seed S] [--long]
-  independent program PATH [VECTORS]
-  independent vectors DIR --write|--check";
+  compare [--long] [--outputs N] [--calls N] [--seed S]
+                        holds the library that this is linked with against the implementation
+  program PATH [ARGUMENT ..]
+                        the same for a program, on drawn inputs
+  vectors DIR --check   whether the files of DIR have the implementation's answers
+  vectors DIR --write   writes these answers
+  run FILE              prints a run on paper, as those of vectors/paper, with its outputs
+  values                what the program check_values must write
+  runs                  what the program check_runs must write
+  output KERNEL REGISTER SAMPLE SAMPLE SAMPLE SAMPLE
+                        one output, and 1 if it is a clip; the register in hexadecimal";
 
 fn main() -> ExitCode {
     let arguments = std::env::args().skip(1).collect::<Vec<String>>();
@@ -36,7 +55,7 @@ fn main() -> ExitCode {
     match command(&words) {
         Ok(()) => ExitCode::SUCCESS,
         Err(what) => {
-            println!("{what}");
+            eprintln!("{what}");
             ExitCode::FAILURE
         }
     }
@@ -44,20 +63,30 @@ fn main() -> ExitCode {
 
 fn command(words: &[&str]) -> Result<(), String> {
     let examples = settled::run()?;
-    println!("{examples} settled examples hold");
+    eprintln!("{examples} settled examples hold");
     match words {
-        ["compare", options @ ..] => compare::run(&amount(options)?),
-        ["program", path] => processes::run(path, "vectors"),
-        ["program", path, vectors] => processes::run(path, vectors),
+        #[cfg(library)]
+        ["compare", words @ ..] => compare::run(&amount(words)?),
+        ["program", command @ ..] if !command.is_empty() => processes::run(command),
         ["vectors", folder, "--write"] => vectors::write(folder),
         ["vectors", folder, "--check"] => vectors::check(folder),
+        ["values"] => values::lines().map(|text| print!("{text}")),
+        ["runs"] => runs::lines().map(|text| print!("{text}")),
+        ["run", path] => run(path),
+        ["output", case @ ..] => values::one(case).map(|text| print!("{text}")),
         _ => Err(USAGE.to_string()),
     }
 }
 
-fn amount(options: &[&str]) -> Result<compare::Amount, String> {
+fn run(path: &str) -> Result<(), String> {
+    let text = std::fs::read_to_string(path).map_err(|error| format!("{path}: {error}"))?;
+    listings::anew(&text).map(|(text, _)| print!("{text}"))
+}
+
+#[cfg(library)]
+fn amount(words: &[&str]) -> Result<compare::Amount, String> {
     let mut amount = compare::Amount { outputs: 10_000_000, calls: 120_000, seed: 1 };
-    let mut rest = options;
+    let mut rest = words;
     loop {
         rest = match rest {
             [] => return Ok(amount),

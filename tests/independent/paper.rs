@@ -5,13 +5,15 @@ use crate::oscillator;
 use crate::settings::{self, Setting};
 use crate::state::{End, State};
 
-/// "It keeps the kernel, a word (the starting one at first), the joined samples (none at first)
-/// and the exact position Q of the next one (P at first), which never wraps."
+/// "It keeps the kernel, a word (the starting one at first), the joined samples (none at first),
+/// the number of outputs made (0 at first) and the exact position Q of the next one (P at first),
+/// which never wraps."
 #[derive(Clone, Debug)]
 pub struct Paper {
     kernel: u8,
     word: u64,
     joined: Vec<i16>,
+    made: usize,
     position: i128,
 }
 
@@ -34,7 +36,8 @@ impl Paper {
     /// After a start that the table accepts.
     pub fn start(kernel: u32, setting: Setting, phase: u32) -> Option<Paper> {
         let word = settings::word(setting).ok().filter(|_| kernel <= 3)?;
-        Some(Paper { kernel: kernel as u8, word, joined: Vec::new(), position: phase as i128 })
+        let (kernel, position) = (kernel as u8, phase as i128);
+        Some(Paper { kernel, word, joined: Vec::new(), made: 0, position })
     }
 
     /// From a stored state that need not come from a start. The window counts as four samples
@@ -47,12 +50,42 @@ impl Paper {
             kernel,
             word: state.word,
             joined: state.window.to_vec(),
+            made: 0,
             position: basepoint * oscillator::ONE + fraction,
         }
     }
 
     pub fn kernel(&self) -> u8 {
         self.kernel
+    }
+
+    /// The number of outputs made.
+    pub fn made(&self) -> usize {
+        self.made
+    }
+
+    /// How many outputs the paper has over the joined samples: "the outputs k = 0, 1, 2 and so on
+    /// before the first whose b + R is n or more (positions still ahead go on by the word in force)".
+    pub fn has(&self) -> usize {
+        self.made + self.standing(self.joined.len()) as usize
+    }
+
+    /// The state of the card by now: its register "holds Q modulo 2^32", and before the output at Q
+    /// it needs b + R + 1 − n samples.
+    pub fn state(&self) -> State {
+        let joined = self.joined.len() as i128;
+        State {
+            kernel: self.kernel,
+            needed: (self.newest(self.position) + 1 - joined) as u8,
+            register: oscillator::register(self.position),
+            word: self.word,
+            window: [4, 3, 2, 1].map(|back| self.sample(joined - back) as i16),
+        }
+    }
+
+    /// b + R of a position.
+    fn newest(&self, position: i128) -> i128 {
+        oscillator::basepoint(self.kernel, position) + kernels::reach(self.kernel)
     }
 
     /// How many outputs "stand before the first whose b + R is n or more": how many terms of
@@ -77,15 +110,11 @@ impl Paper {
             // "Otherwise it makes S outputs, and joins the first b + R + 1 − n of the input, b
             // being the basepoint of the position after those outputs: FULL."
             let after = first + space as i128 * self.word as i128;
-            let newest = oscillator::basepoint(self.kernel, after) + kernels::reach(self.kernel);
-            Page {
-                joined: (newest + 1 - before as i128) as usize,
-                made: space,
-                end: End::Full,
-                first,
-            }
+            let joined = (self.newest(after) + 1 - before as i128) as usize;
+            Page { joined, made: space, end: End::Full, first }
         };
         self.joined.extend(&input[..page.joined]);
+        self.made += page.made;
         // "Either way Q becomes the position after the outputs made."
         self.position = first + page.made as i128 * self.word as i128;
         page
@@ -124,23 +153,44 @@ impl Paper {
     }
 
     /// "the value of demand 2 at the paper's basepoint and at m of the paper's fraction, over the
-    /// joined samples"
-    pub fn output(&self, position: i128) -> i16 {
-        let m = oscillator::filter_fraction(oscillator::fraction(self.kernel, position));
-        kernels::output(self.kernel, &self.near(position), m).0
+    /// joined samples", and whether it clips.
+    pub fn output(&self, position: i128) -> (i16, bool) {
+        kernels::output(self.kernel, &self.near(position), self.m(position))
     }
 
-    /// Output k "lies at most 1/2 + D/K from the paper's value held to 16 bits" (demand 3). "The
-    /// paper's value in demand 3 is the same formula at u = f/2^32, held but not rounded." K is
-    /// the row's denominator times a power of two, so that `scale` times D/K is whole.
+    /// The same before it is rounded, times `kernels::scale(kernel, 14)`.
+    pub fn exact(&self, position: i128) -> i128 {
+        kernels::value(self.kernel, &self.near(position), self.m(position), 14)
+    }
+
+    fn m(&self, position: i128) -> i128 {
+        oscillator::filter_fraction(oscillator::fraction(self.kernel, position))
+    }
+
+    /// "The paper's value in demand 3 is the same formula at u = f/2^32, held but not rounded." This
+    /// is the value before holding, times `kernels::scale(kernel, 32)`.
+    pub fn value(&self, position: i128) -> i128 {
+        let fraction = oscillator::fraction(self.kernel, position);
+        kernels::value(self.kernel, &self.near(position), fraction, 32)
+    }
+
+    /// The same after holding.
+    pub fn held(&self, position: i128) -> i128 {
+        let scale = kernels::scale(self.kernel, 32);
+        self.value(position).clamp(-32768 * scale, 32767 * scale)
+    }
+
+    /// "D is the largest absolute difference between neighbours".
+    pub fn jump(&self, position: i128) -> i128 {
+        kernels::largest_jump(self.kernel, &self.near(position))
+    }
+
+    /// Output k "lies at most 1/2 + D/K from the paper's value held to 16 bits" (demand 3). K is the
+    /// row's denominator times a power of two, so that `scale` times D/K is whole.
     pub fn distance(&self, position: i128, output: i16) -> Distance {
-        let kernel = self.kernel;
-        let near = self.near(position);
-        let scale = kernels::scale(kernel, 32);
-        let fraction = oscillator::fraction(kernel, position);
-        let value = kernels::value(kernel, &near, fraction, 32);
-        let held = value.clamp(-32768 * scale, 32767 * scale);
-        let jump = scale / kernels::bound_divisor(kernel) * kernels::largest_jump(kernel, &near);
-        Distance { is: (output as i128 * scale - held).abs(), may_be: scale / 2 + jump }
+        let scale = kernels::scale(self.kernel, 32);
+        let jump = scale / kernels::bound_divisor(self.kernel) * self.jump(position);
+        let is = (output as i128 * scale - self.held(position)).abs();
+        Distance { is, may_be: scale / 2 + jump }
     }
 }

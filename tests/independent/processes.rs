@@ -1,143 +1,85 @@
-//! The comparison of the program's binary with the implementation's program, over generated inputs
-//! and the files of vectors/.
+//! The comparison of a program with the implementation's, over generated inputs.
 
 use crate::generate;
 use crate::program;
 use crate::random::Random;
-use std::fs;
-use std::io::Write;
+use std::collections::BTreeMap;
+use std::io::{self, Error, Read, Write};
 use std::process::{Command, Stdio};
+use std::sync::mpsc;
+use std::thread;
+use std::time::Duration;
 
 const INPUTS: usize = 900;
+/// For one run.
+const LIMIT: Duration = Duration::from_secs(60);
 /// Above so many outputs an input is left out.
 const LARGEST: usize = 400_000;
 
-#[derive(Default)]
-struct Seen {
-    inputs: usize,
-    vectors: usize,
-    bytes: usize,
-    /// By refusal; place 0 counts the runs that end with an E line.
-    ends: [usize; 13],
-}
+/// The ends that there have to be among the runs.
+const ENDS: [&str; 8] = ["E", "R01", "R04", "R06", "R07", "R08", "R09", "R10"];
 
-/// Runs the binary on everything and prints what was compared.
-pub fn run(path: &str, folder: &str) -> Result<(), String> {
-    let mut seen = Seen::default();
+/// Runs the program on every input and prints what was compared.
+pub fn run(command: &[&str]) -> Result<(), String> {
     let mut random = Random(2);
-    for input in printed().into_iter().chain((0..INPUTS).map(|_| damaged(&mut random))) {
-        compare(path, &input, &mut seen)?;
-        seen.inputs += 1;
+    let mut ends = BTreeMap::<String, usize>::new();
+    for _ in 0..INPUTS {
+        *ends.entry(compare(command, &damaged(&mut random))?).or_default() += 1;
     }
-    files(path, folder, &mut seen)?;
-    let Seen { inputs, vectors, bytes, ends } = seen;
-    println!("the program agrees on {inputs} inputs and {vectors} files; it wrote {bytes} bytes");
-    let refused = (1..13).filter(|&refusal| ends[refusal] > 0);
-    let refused = refused.map(|refusal| format!(" R{refusal:02} {}", ends[refusal]));
-    println!("ends: E {}{}", ends[0], refused.collect::<String>());
-    match [0, 1, 4, 6, 7, 8, 9, 10].iter().find(|&&end| ends[end] == 0) {
+    let counts = ends.iter().map(|(end, count)| format!(" {end} {count}"));
+    println!("the program agrees on {INPUTS} inputs; ends:{}", counts.collect::<String>());
+    match ENDS.iter().find(|&&end| !ends.contains_key(end)) {
         Some(end) => Err(format!("no run ended with {end}")),
         None => Ok(()),
     }
 }
 
-/// Every NAME.frames of the folder, with NAME.out beside it.
-fn files(path: &str, folder: &str, seen: &mut Seen) -> Result<(), String> {
-    let entries = fs::read_dir(folder).map_err(|error| format!("{folder}: {error}"))?;
-    let mut names = Vec::new();
-    for entry in entries {
-        names.push(entry.map_err(|error| format!("{folder}: {error}"))?.path());
-    }
-    names.retain(|name| name.extension().is_some_and(|extension| extension == "frames"));
-    names.sort();
-    for name in &names {
-        let read = |name: &std::path::Path| {
-            fs::read(name).map_err(|error| format!("{}: {error}", name.display()))
-        };
-        let input = read(name)?;
-        if read(&name.with_extension("out"))? != program::run(&input) {
-            return Err(format!("{}: the file of outputs differs", name.display()));
-        }
-        compare(path, &input, seen).map_err(|what| format!("{}: {what}", name.display()))?;
-        seen.vectors += 1;
-    }
-    match names.is_empty() {
-        true => Err(format!("{folder}: no files of frame lines")),
-        false => Ok(()),
-    }
-}
-
-/// Runs the binary on one input and compares what it writes.
-fn compare(path: &str, input: &[u8], seen: &mut Seen) -> Result<(), String> {
+/// Runs the program on one input and compares what it writes: how it ended, E or a refusal.
+fn compare(command: &[&str], input: &[u8]) -> Result<String, String> {
+    let told = |what: &str| format!("{}: {what}\ninput:\n{}", command[0], shown(input));
     let expected = program::run(input);
-    let written = output_of(path, input).map_err(|error| format!("{path}: {error}"))?;
+    let written = output_of(command, input).map_err(|error| told(&error.to_string()))?;
+    let line = |bytes: &[u8], place: usize| match bytes.split(|&byte| byte == 10).nth(place) {
+        Some(line) => shown(line),
+        None => "missing".to_string(),
+    };
     if written != expected {
-        return Err(format!(
-            "the program differs\ninput:\n{}\nit wrote:\n{}\nexpected:\n{}",
-            shown(input),
-            shown(&written),
-            shown(&expected)
-        ));
+        let lines = written.split(|&byte| byte == 10).zip(expected.split(|&byte| byte == 10));
+        let place = lines.take_while(|(one, other)| one == other).count();
+        let (one, other) = (line(&written, place), line(&expected, place));
+        return Err(told(&format!("line {} is {one}, expected {other}", place + 1)));
     }
-    seen.bytes += expected.len();
-    let last = String::from_utf8_lossy(&expected);
-    let last = last.lines().last().unwrap_or("");
-    let end = last.strip_prefix('R').and_then(|digits| digits.parse::<usize>().ok());
-    seen.ends[end.unwrap_or(0)] += 1;
-    Ok(())
+    let text = String::from_utf8_lossy(&expected);
+    let last = text.lines().last().unwrap_or("");
+    Ok(if last.starts_with('E') { "E" } else { last }.to_string())
 }
 
 fn shown(bytes: &[u8]) -> String {
     bytes.escape_ascii().to_string().replace("\\n", "\n")
 }
 
-fn output_of(path: &str, input: &[u8]) -> std::io::Result<Vec<u8>> {
-    let mut child = Command::new(path).stdin(Stdio::piped()).stdout(Stdio::piped()).spawn()?;
-    let mut pipe = child.stdin.take();
+fn output_of(command: &[&str], input: &[u8]) -> io::Result<Vec<u8>> {
+    let mut child = Command::new(command[0]);
+    child.args(&command[1..]).stdin(Stdio::piped()).stdout(Stdio::piped());
+    let mut child = child.spawn()?;
+    let (mut to, mut from) = (child.stdin.take().unwrap(), child.stdout.take().unwrap());
     let input = input.to_vec();
     // A program that refuses a line may stop reading: then the rest cannot be written, and need not.
-    let writer = std::thread::spawn(move || pipe.as_mut().map(|pipe| pipe.write_all(&input)));
-    let output = child.wait_with_output()?;
+    let writer = thread::spawn(move || to.write_all(&input));
+    let (sender, receiver) = mpsc::channel();
+    thread::spawn(move || {
+        let mut bytes = Vec::new();
+        sender.send(from.read_to_end(&mut bytes).map(|_| bytes))
+    });
+    let Ok(written) = receiver.recv_timeout(LIMIT) else {
+        child.kill()?;
+        return Err(Error::other(format!("not done after {} s", LIMIT.as_secs())));
+    };
     let _ = writer.join();
-    match output.status.code() {
-        Some(_) => Ok(output.stdout),
-        None => Err(std::io::Error::other("it was ended by a signal")),
+    match child.wait()?.code() {
+        Some(_) => written,
+        None => Err(Error::other("it was ended by a signal")),
     }
-}
-
-/// The inputs that document 01 prints or names, and the ends of lines and of the length of lines.
-fn printed() -> Vec<Vec<u8>> {
-    let k = "K008000000000000000\n";
-    let mut texts =
-        ["", "\n", "K", "D", "K\n", "D\n", "K00800000000000000\n", k].map(String::from).to_vec();
-    texts.push(k.to_lowercase());
-    let after = [
-        "\n",
-        "D",
-        "D\n",
-        "D000000000300000064002871\n",
-        "D000000000300000064002871",
-        "d000000000300000064002871\n",
-        "D000000000300000064002871\n\n",
-        "D000000000300000064002871\r\n",
-        "K008000000000000000\n",
-        "D000000000000\n",
-        "D00000000014\n",
-    ];
-    texts.extend(after.iter().map(|text| format!("{k}{text}")));
-    texts.push(k.replace('\n', ""));
-    for length in [255, 267, 268, 269, 270, 271, 5000] {
-        texts.push(format!("K{}\n", "0".repeat(length)));
-        texts.push(format!("{k}D{}\n", "0".repeat(length)));
-        texts.push(format!("{k}D{}", "0".repeat(length)));
-    }
-    for start in ["4000000000", "0000000000", "0400000001", "F000000000", "0400000000", "3FFFFFFFF"]
-    {
-        texts.push(format!("K{start}00000000\n"));
-        texts.push(format!("K{start}0000000g\n"));
-        texts.push(format!("K{start}0000000\n"));
-    }
-    texts.into_iter().map(String::into_bytes).collect()
 }
 
 /// A stream, damaged two times in three.

@@ -1,15 +1,17 @@
 //! The settled examples of document 01, starred or not, and the printed examples of the program,
 //! run on the implementation before every command.
 
-use crate::host::{self, Call, Request};
+use crate::host;
 use crate::image;
-use crate::kernels::{self, Near};
+use crate::judge;
+use crate::kernels;
 use crate::oscillator;
 use crate::paper::Paper;
 use crate::program;
 use crate::random::Random;
 use crate::settings::{self, Setting};
 use crate::state::{self, End, Fed};
+use crate::values;
 
 const HALF: u64 = 1 << 31;
 
@@ -32,28 +34,21 @@ pub fn run() -> Result<usize, String> {
 type Example = (&'static str, bool);
 
 /// The outputs of one feed after a start, with room for all, from the state over samples, from the
-/// host calls and from the paper, which must agree.
+/// host calls and from the paper, which must agree. "Output places past those written keep their
+/// contents."
 fn outputs(kernel: u8, word: u64, phase: u32, samples: &[i16]) -> Vec<i16> {
     let setting = Setting::Word(word);
     let fresh = state::start(kernel as u32, setting, phase).unwrap();
-    let mut places = [0; 32];
+    let mut places = [7; 32];
     let fed = state::feed(fresh, samples, &mut places).unwrap();
-    let outputs = &places[..fed.written];
-    let mut call = Call {
-        request: Request::Start(kernel as u32, setting, phase),
-        image: vec![0xee; image::LENGTH],
-        input: host::bytes(samples),
-        output: vec![0; 64],
-    };
-    call.image = host::answer(&call).image;
-    call.request = Request::Feed;
-    assert_eq!(host::answer(&call).output, host::bytes(&places));
+    assert!(places[fed.written..].iter().all(|&place| place == 7));
+    let start = host::start(vec![0xee; image::LENGTH], kernel as u32, setting, phase);
+    let image = host::answer(&start).buffers.remove(0);
+    let feed = host::feed(image, host::bytes(samples), host::bytes(&[7; 32]));
+    assert_eq!(host::answer(&feed).buffers[2], host::bytes(&places));
     let mut paper = Paper::start(kernel as u32, setting, phase).unwrap();
-    let page = paper.feed(samples, 32);
-    assert_eq!((page.joined, page.made, page.end), (fed.taken, fed.written, fed.end));
-    for (k, output) in outputs.iter().enumerate() {
-        assert_eq!(paper.output(paper.position(&page, k)), *output);
-    }
+    let outputs = &places[..fed.written];
+    judge::feed(&mut paper, samples, outputs, 32, &fed, |_| ()).unwrap();
     outputs.to_vec()
 }
 
@@ -80,17 +75,19 @@ fn streams() -> Vec<Example> {
 }
 
 fn single_outputs() -> Vec<Example> {
-    let at_half = |kernel, xm, x0, x1, x2| {
-        let near = Near { xm, x0, x1, x2 };
-        kernels::output(kernel, &near, 8192)
-    };
+    let at = |kernel, register, window| values::output(kernel, (register, window)).unwrap();
+    let at_half = |kernel, window| at(kernel, 1 << 31, window);
     vec![
-        ("kernel 2 at u = 1/2 over 16, 32, 48, 80: 38", at_half(2, 16, 32, 48, 80) == (38, false)),
-        ("kernel 0 at 1/2: 0, 1 gives 1", at_half(0, 0, 0, 1, 0) == (1, false)),
-        ("kernel 0 at 1/2: 0, -1 gives 0", at_half(0, 0, 0, -1, 0) == (0, false)),
+        ("kernel 2 at u = 1/2 over 16, 32, 48, 80: 38", at_half(2, [16, 32, 48, 80]) == (38, 0)),
+        ("kernel 0 at 1/2: 0, 1 gives 1", at_half(0, [0, 0, 0, 1]) == (1, 0)),
+        ("kernel 0 at 1/2: 0, -1 gives 0", at_half(0, [0, 0, 0, -1]) == (0, 0)),
         (
             "kernel 3 at 1/2: -32768, 32767, 32767, -32768 gives 32767, one clip",
-            at_half(3, -32768, 32767, 32767, -32768) == (32767, true),
+            at_half(3, [-32768, 32767, 32767, -32768]) == (32767, 1),
+        ),
+        (
+            "kernel 1, b 1 with m -4096, 10, 20, 40: 17",
+            at(1, 0xc0000000, [0, 10, 20, 40]) == (17, 0),
         ),
     ]
 }

@@ -1,111 +1,121 @@
 //! What was compared, and the tables that say so.
 
-use crate::host::{self, Answer, Call, Request};
-use crate::image;
+use crate::host::{Answer, Call, ROWS};
 use crate::kernels;
 use crate::paper::Distance;
 use crate::settings::LARGEST_WORD;
+use crate::state::{End, Fed};
+use std::collections::{BTreeMap, BTreeSet};
+
+/// What is counted of each kernel's feeds; the second two are outputs at the outermost words.
+const COUNTED: [&str; 8] = [
+    "from starts",
+    "from stored",
+    "at word 1",
+    "at word 2^34",
+    "FULL",
+    "HUNGRY",
+    "samples",
+    "clips",
+];
 
 #[derive(Default)]
 pub struct Tally {
-    pub calls: [[u64; 13]; 7],
-    pub kernels: [Kernel; 4],
     pub chains: u64,
-}
-
-/// What was seen of one kernel. Distances are multiplied by `kernels::scale(kernel, 32)`.
-#[derive(Default)]
-pub struct Kernel {
-    pub fresh: u64,
-    pub stored: u64,
-    /// Outputs written while the word was 1, and while it was 2^34.
-    at_smallest: u64,
-    at_largest: u64,
-    taken: u64,
-    clips: u64,
-    full: u64,
-    hungry: u64,
-    largest: i128,
-    margin: Option<i128>,
+    /// By the call's name and its answer.
+    calls: BTreeMap<(&'static str, u32), u64>,
+    /// By kernel and what is counted.
+    counts: BTreeMap<(u8, &'static str), u64>,
+    outputs: u64,
+    /// By kernel the largest distance to the paper's value, and the smallest margin to the bound,
+    /// multiplied by `kernels::scale(kernel, 32)`.
+    nearest: [Option<Distance>; 4],
 }
 
 impl Tally {
     pub fn count(&mut self, call: &Call, answer: &Answer) {
-        self.calls[host::kind(&call.request)][answer.result as usize] += 1;
-        if answer.result == 0 && matches!(call.request, Request::Feed) {
-            let [taken, written, clips, end] = image::counts(&answer.image);
-            let kernel = &mut self.kernels[answer.image[image::KERNEL] as usize];
-            // A feed leaves the word as it is: it was in force for all that the feed wrote.
-            match image::word(&answer.image) {
-                1 => kernel.at_smallest += written as u64,
-                LARGEST_WORD => kernel.at_largest += written as u64,
-                _ => (),
-            }
-            kernel.taken += taken as u64;
-            kernel.clips += clips as u64;
-            kernel.full += end as u64;
-            kernel.hungry += 1 - end as u64;
+        *self.calls.entry((call.row.name, answer.result)).or_default() += 1;
+    }
+
+    /// A feed that was held to the paper, from a start or from a stored state. It leaves the word as
+    /// it is: it was in force for all that the feed wrote.
+    pub fn fed(&mut self, fed: &Fed, fresh: bool) {
+        self.outputs += fed.written as u64;
+        let mut add = |what, count: usize| {
+            *self.counts.entry((fed.state.kernel, what)).or_default() += count as u64
+        };
+        add(if fresh { "from starts" } else { "from stored" }, fed.written);
+        add(if fed.end == End::Full { "FULL" } else { "HUNGRY" }, 1);
+        add("samples", fed.taken);
+        add("clips", fed.clips);
+        match fed.state.word {
+            1 => add("at word 1", fed.written),
+            LARGEST_WORD => add("at word 2^34", fed.written),
+            _ => (),
         }
     }
 
-    /// An output that was held to the paper, and how far from it it lay.
+    /// How far from the paper's value an output lay.
     pub fn hold(&mut self, kernel: u8, distance: &Distance) {
-        let kernel = &mut self.kernels[kernel as usize];
-        let margin = distance.may_be - distance.is;
-        kernel.largest = kernel.largest.max(distance.is);
-        kernel.margin = Some(kernel.margin.map_or(margin, |least| least.min(margin)));
+        let Distance { is, may_be } = *distance;
+        let nearest = self.nearest[kernel as usize].get_or_insert(Distance { is, may_be });
+        nearest.is = nearest.is.max(is);
+        nearest.may_be = nearest.may_be.min(may_be - is);
     }
 
     pub fn outputs(&self) -> u64 {
-        self.kernels.iter().map(|kernel| kernel.fresh + kernel.stored).sum()
+        self.outputs
     }
 
     pub fn total_calls(&self) -> u64 {
-        self.calls.iter().flatten().sum()
+        self.calls.values().sum()
     }
 
     pub fn print(&self) {
         println!("{} calls in {} chains, by answer:", self.total_calls(), self.chains);
-        self.print_calls();
-        println!("{} outputs, by kernel:", self.outputs());
-        print!("{:<8}{:>12}{:>13}", "kernel", "from starts", "from stored");
-        print!("{:>12}{:>14}", "at word 1", "at word 2^34");
-        print!("{:>12}{:>10}{:>9}{:>9}", "samples", "clips", "FULL", "HUNGRY");
-        println!("{:>18}{:>17}", "largest distance", "smallest margin");
-        for (number, kernel) in self.kernels.iter().enumerate() {
-            kernel.print(number as u8);
+        let answers = self.calls.keys().map(|(_, answer)| *answer).collect::<BTreeSet<u32>>();
+        print_row("call", &answers);
+        for row in ROWS {
+            let counts = answers.iter().map(|answer| self.calls.get(&(row.name, *answer)));
+            print_row(row.name, counts.map(|count| count.unwrap_or(&0)));
+        }
+        println!("{} outputs, by kernel:", self.outputs);
+        let distances = ["largest distance", "smallest margin"];
+        print_row("kernel", COUNTED.iter().chain(&distances));
+        for kernel in 0..4 {
+            let scale = kernels::scale(kernel, 32) as f64;
+            let nearest = self.nearest[kernel as usize].as_ref();
+            let [largest, margin] =
+                nearest.map_or([0, 0], |near| [near.is, near.may_be]).map(|n| n as f64 / scale);
+            let counts = COUNTED.map(|what| self.of(kernel, what).to_string());
+            let distances = [format!("{largest:.6}"), format!("{margin:.2e}")];
+            print_row(&kernel.to_string(), counts.iter().chain(&distances));
         }
     }
 
-    fn print_calls(&self) {
-        let seen = |answer: &usize| self.calls.iter().any(|row| row[*answer] > 0);
-        let columns = (0..13).filter(seen).collect::<Vec<usize>>();
-        let titles = columns.iter().map(|answer| format!("{answer:>9}")).collect::<String>();
-        println!("{:<14}{titles}", "call");
-        for (name, row) in host::NAMES.iter().zip(&self.calls) {
-            let numbers = columns.iter().map(|&answer| format!("{:>9}", row[answer]));
-            println!("{name:<14}{}", numbers.collect::<String>());
+    fn of(&self, kernel: u8, what: &'static str) -> u64 {
+        *self.counts.get(&(kernel, what)).unwrap_or(&0)
+    }
+
+    /// A comparison that misses an answer of a call, or something that is counted of a kernel, says
+    /// nothing. The linear kernel never clips: its value lies between its samples.
+    pub fn complete(&self) -> Result<(), String> {
+        for row in ROWS {
+            let met = |answer: &&u32| self.calls.contains_key(&(row.name, **answer));
+            if let Some(answer) = row.answers.iter().find(|answer| !met(answer)) {
+                return Err(format!("no {} was answered with {answer}: compare more", row.name));
+            }
         }
+        for (kernel, what) in (0..4).flat_map(|kernel| COUNTED.map(|what| (kernel, what))) {
+            if (self.of(kernel, what) > 0) == ((kernel, what) == (0, "clips")) {
+                return Err(format!("kernel {kernel}, {what}: not as it has to be; compare more"));
+            }
+        }
+        Ok(())
     }
 }
 
-impl Kernel {
-    fn print(&self, number: u8) {
-        let scale = kernels::scale(number, 32) as f64;
-        let largest = self.largest as f64 / scale;
-        let margin = self.margin.unwrap_or(0) as f64 / scale;
-        print!("{number:<8}{:>12}{:>13}", self.fresh, self.stored);
-        print!("{:>12}{:>14}", self.at_smallest, self.at_largest);
-        print!("{:>12}{:>10}{:>9}{:>9}", self.taken, self.clips, self.full, self.hungry);
-        println!("{largest:>18.6}{margin:>17.2e}");
-    }
-
-    /// Whether there were outputs of both sorts, at the smallest and at the largest word, and both
-    /// ends; and clips, unless the kernel is linear: its value lies between its samples.
-    pub fn complete(&self, linear: bool) -> bool {
-        let clips = (self.clips > 0) != linear;
-        let outputs = [self.fresh, self.stored, self.at_smallest, self.at_largest];
-        let counts = outputs.into_iter().chain([self.full, self.hungry]);
-        counts.min() > Some(0) && clips
-    }
+fn print_row(name: &str, cells: impl IntoIterator<Item = impl std::fmt::Display>) {
+    let cells = cells.into_iter().map(|cell| format!("{cell:>17}"));
+    println!("{name:<13}{}", cells.collect::<String>());
 }

@@ -1,55 +1,82 @@
-//! Writes the files of host calls, and checks that a folder holds exactly those.
+//! The files of vectors/: writes them anew, and checks that they are what the implementation makes.
 
-use crate::sheet::Sheet;
-use crate::sheets;
-use std::collections::BTreeSet;
+use crate::{cases, listings, sheets};
 use std::fs;
-use std::path::Path;
+use std::path::{Path, PathBuf};
 
-/// Writes every file, and takes away files of calls that are no longer made.
-pub fn write(folder: &str) -> Result<(), String> {
-    let folder = Path::new(folder);
-    fs::create_dir_all(folder).map_err(|error| format!("{}: {error}", folder.display()))?;
-    let sheets = sheets::all();
-    for name in surplus(folder, &sheets)? {
-        fs::remove_file(folder.join(&name)).map_err(|error| format!("{name}: {error}"))?;
-    }
-    for sheet in &sheets {
-        let path = folder.join(sheet.file_name());
-        fs::write(&path, sheet.text()).map_err(|error| format!("{}: {error}", path.display()))?;
-    }
-    report("wrote", &sheets);
-    Ok(())
+/// A folder's files as they should be, and what they have.
+struct Folder {
+    files: Vec<(PathBuf, String)>,
+    has: String,
 }
 
-/// Every file must be there, byte for byte, and no other file of calls.
-pub fn check(folder: &str) -> Result<(), String> {
-    let folder = Path::new(folder);
-    let sheets = sheets::all();
-    for sheet in &sheets {
-        let path = folder.join(sheet.file_name());
-        let text = fs::read(&path).map_err(|error| format!("{}: {error}", path.display()))?;
-        if text != sheet.text().as_bytes() {
-            return Err(format!("{}: differs from what the implementation makes", path.display()));
+/// The files have the calls, inputs and runs, and get the answers.
+fn folders(root: &Path) -> Result<[Folder; 3], String> {
+    let mut places = cases::Places::new();
+    let case = |file: &str, text: &str| cases::anew(file, text, &mut places);
+    Ok([
+        made(&root.join("host"), "calls", (4000, "calls"), |_, text| sheets::anew(text))?,
+        made(&root.join("program"), "cases", (200, "cases"), case)?,
+        made(&root.join("paper"), "run", (1500, "outputs"), |_, text| listings::anew(text))?,
+    ])
+}
+
+/// The files of a folder with an extension, from their names and texts. What they have is counted:
+/// with fewer than so many, as of an empty folder, something is missing.
+fn made(
+    folder: &Path,
+    extension: &str,
+    (fewest, what): (usize, &str),
+    mut anew: impl FnMut(&str, &str) -> Result<(String, usize), String>,
+) -> Result<Folder, String> {
+    let entries = fs::read_dir(folder).map_err(|error| told(folder, error))?;
+    let mut paths = entries.filter_map(|entry| Some(entry.ok()?.path())).collect::<Vec<PathBuf>>();
+    paths.retain(|path| path.extension().is_some_and(|of| of == extension));
+    paths.sort();
+    let (mut files, mut count) = (Vec::new(), 0);
+    for path in paths {
+        let text = read(&path)?;
+        let file = path.file_name().unwrap_or_default().to_string_lossy();
+        let (text, more) = anew(&file, &text).map_err(|what| told(&path, what))?;
+        files.push((path, text));
+        count += more;
+    }
+    let has = format!("{} files with {count} {what}", files.len());
+    match count < fewest {
+        true => Err(told(folder, format!("{has}, fewer than {fewest}"))),
+        false => Ok(Folder { files, has: told(folder, has) }),
+    }
+}
+
+fn told(path: &Path, what: impl std::fmt::Display) -> String {
+    format!("{}: {what}", path.display())
+}
+
+fn read(path: &Path) -> Result<String, String> {
+    fs::read_to_string(path).map_err(|error| told(path, error))
+}
+
+pub fn write(root: &str) -> Result<(), String> {
+    for Folder { files, has } in folders(Path::new(root))? {
+        for (path, text) in files {
+            fs::write(&path, text).map_err(|error| told(&path, error))?;
         }
+        println!("wrote {has}");
     }
-    if let Some(name) = surplus(folder, &sheets)?.first() {
-        return Err(format!("{}: nothing makes this file", folder.join(name).display()));
-    }
-    report("checked", &sheets);
     Ok(())
 }
 
-fn surplus(folder: &Path, sheets: &[Sheet]) -> Result<Vec<String>, String> {
-    let made = sheets.iter().map(Sheet::file_name).collect::<BTreeSet<String>>();
-    let entries = fs::read_dir(folder).map_err(|error| format!("{}: {error}", folder.display()))?;
-    let names = entries.filter_map(|entry| entry.ok()?.file_name().into_string().ok());
-    let surplus = names.filter(|name| name.ends_with(".calls") && !made.contains(name));
-    Ok(surplus.collect())
-}
-
-fn report(done: &str, sheets: &[Sheet]) {
-    let calls = sheets.iter().map(|sheet| sheet.calls()).sum::<usize>();
-    let bytes = sheets.iter().map(|sheet| sheet.text().len()).sum::<usize>();
-    println!("{done} {} files with {calls} calls, {bytes} bytes", sheets.len());
+pub fn check(root: &str) -> Result<(), String> {
+    for Folder { files, has } in folders(Path::new(root))? {
+        for (path, made) in files {
+            let text = read(&path)?;
+            let mut lines = text.split('\n').zip(made.split('\n')).enumerate();
+            if let Some((place, (_, made))) = lines.find(|(_, (line, made))| line != made) {
+                let line = place + 1;
+                return Err(format!("{}:{line}: the implementation makes {made}", path.display()));
+            }
+        }
+        println!("checked {has}");
+    }
+    Ok(())
 }
