@@ -15,14 +15,14 @@ fn folders(root: &Path) -> Result<[Folder; 3], String> {
     let mut places = cases::Places::new();
     let case = |file: &str, text: &str| cases::anew(file, text, &mut places);
     Ok([
-        made(&root.join("host"), "calls", (4000, "calls"), |_, text| sheets::anew(text))?,
-        made(&root.join("program"), "cases", (200, "cases"), case)?,
-        made(&root.join("paper"), "run", (1500, "outputs"), |_, text| listings::anew(text))?,
+        made(&root.join("host"), "calls", (4638, "calls"), |_, text| sheets::anew(text))?,
+        made(&root.join("program"), "cases", (234, "cases"), case)?,
+        made(&root.join("paper"), "run", (1597, "outputs"), |_, text| listings::anew(text))?,
     ])
 }
 
-/// The files of a folder with an extension, from their names and texts. What they have is counted:
-/// with fewer than so many, as of an empty folder, something is missing.
+/// The files of a folder with an extension, from their names and texts. What they have is counted,
+/// so that nothing gets lost unseen: fewer than so many is an error.
 fn made(
     folder: &Path,
     extension: &str,
