@@ -120,7 +120,7 @@ fn row(paper: &Paper, number: usize, position: i128) -> String {
 }
 
 /// A fraction; what is under the line is above zero.
-fn in_lowest_terms(over: i128, under: i128) -> String {
+pub fn in_lowest_terms(over: i128, under: i128) -> String {
     let (mut common, mut rest) = (under, over.abs());
     while rest != 0 {
         (common, rest) = (rest, common % rest);

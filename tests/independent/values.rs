@@ -3,6 +3,7 @@
 
 use crate::draw::Draw;
 use crate::kernels;
+use crate::listings;
 use crate::oscillator;
 use crate::state::{self, State};
 
@@ -27,8 +28,9 @@ pub fn one(words: &[&str]) -> Result<String, String> {
     let (output, clips) = output(kernel, case)?;
     let m = oscillator::filter_fraction(oscillator::fraction(kernel, case.0 as i128));
     let near = state::near(&State { kernel, needed: 0, register: case.0, word: 1, window: case.1 });
-    let (value, scale) = (kernels::value(kernel, &near, m, 14), kernels::scale(kernel, 14));
-    Ok(format!("{output} {clips}\nm {m}, exact {value}/{scale}\n"))
+    let value = kernels::value(kernel, &near, m, 14);
+    let exact = listings::in_lowest_terms(value, kernels::scale(kernel, 14));
+    Ok(format!("{output} {clips}\nm {m}, exact {exact}\n"))
 }
 
 fn read(words: &[&str]) -> Option<(u8, Case)> {
