@@ -94,6 +94,7 @@ extern "C" fn on_signal(number: i32) {
         ALARM => lost(&format!("has not answered after {LIMIT} s")),
         _ => lost(&format!("was ended by signal {number}")),
     }
+    eprintln!("ended by signal {number}, outside of the library");
     unsafe { _exit(1) }
 }
 
@@ -129,6 +130,7 @@ impl Library {
         CALL.store(call as *const Call as *mut Call, SeqCst);
         unsafe { alarm(LIMIT) };
         let result = (call.row.make)(&call.numbers, &lent);
+        unsafe { alarm(0) };
         CALL.store(null_mut(), SeqCst);
         for ((buffer, before), (name, role)) in
             buffers.iter().zip(&call.buffers).zip(call.row.buffers)
