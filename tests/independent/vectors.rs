@@ -70,10 +70,12 @@ pub fn check(root: &str) -> Result<(), String> {
     for Folder { files, has } in folders(Path::new(root))? {
         for (path, made) in files {
             let text = read(&path)?;
-            let mut lines = text.split('\n').zip(made.split('\n')).enumerate();
-            if let Some((place, (_, made))) = lines.find(|(_, (line, made))| line != made) {
-                let line = place + 1;
-                return Err(format!("{}:{line}: the implementation makes {made}", path.display()));
+            if text != made {
+                let lines = text.split('\n').zip(made.split('\n'));
+                let place = lines.take_while(|(line, made)| line == made).count();
+                let made = made.split('\n').nth(place).unwrap_or("no more lines");
+                let line = format!("{}:{}", path.display(), place + 1);
+                return Err(format!("{line}: the implementation makes {made}"));
             }
         }
         println!("checked {has}");

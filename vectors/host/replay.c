@@ -633,10 +633,10 @@ static void make_call(void)
     if (differs)
         tell(call.line, call.about, "result: expected %lu, got %lu",
              (unsigned long)call.result, (unsigned long)result);
-    for (i = 0; i < call.count; i++) {
+    for (i = 0; i < call.count; i++)
         differs |= tell_guard(call.buffers[i]);
+    for (i = 0; i < call.count; i++)
         differs |= tell_fields(call.buffers[i]);
-    }
     file.differ += differs ? 1 : 0;
     file.agreed += differs ? 0 : 1;
     if (memory != store)
