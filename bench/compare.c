@@ -7,6 +7,10 @@
    the new one, new / C and new / old. Each ratio is the median over the runs of the ratio of two neighbouring runs,
    which other work on the machine disturbs less than the ratio of the best times.
 
+   Built with LANES it holds against each other and times one call of resampler_feed_lanes for sixteen lanes, the same
+   in plain C, and sixteen calls of resampler_feed with an image each, over the same buffers. It prints the best time of
+   each, and the ratios as medians. A block is that of a lane; it is shorter where its outputs would not fit one call.
+
    With the word `loud` the signal is noise over the whole range, which makes clips. With the word `half` it is noise of
    at most 128 either way, which makes none, and there are only the rows of word 2^31: every second output stands in the
    middle between two samples, and half of those of the linear kernel on a half, at random. At the other words next to
@@ -26,28 +30,109 @@
 typedef uint32_t start_function(uint8_t *, size_t, uint32_t, uint64_t, uint32_t);
 typedef uint32_t feed_function(uint8_t *, size_t, const uint8_t *, size_t, uint8_t *, size_t);
 
+struct maker {
+    start_function *start;
+    feed_function *feed;
+    size_t image; /* bytes of its image, or images */
+};
+
+enum { SINGLE = RESAMPLER_IMAGE_BYTES, SPACE = RESAMPLER_LARGEST_BUFFER };
+
+#ifdef LANES
+
+enum { FED = RESAMPLER_MOST_LANES, IMAGE = FED * SINGLE };
+
+static uint32_t feed_at_once(uint8_t *image, size_t image_length, const uint8_t *input, size_t input_length,
+                             uint8_t *output, size_t output_length)
+{
+    return resampler_feed_lanes(image, image_length, FED, input, input_length, output, output_length);
+}
+
+static uint32_t feed_plain(uint8_t *image, size_t image_length, const uint8_t *input, size_t input_length,
+                           uint8_t *output, size_t output_length)
+{
+    return plain_host_feed_lanes(image, image_length, FED, input, input_length, output, output_length);
+}
+
+static uint32_t start_each(uint8_t *images, size_t length, uint32_t kernel, uint64_t word, uint32_t phase)
+{
+    uint32_t refusal = RESAMPLER_ACCEPTED;
+    for (size_t at = 0; at < length && refusal == RESAMPLER_ACCEPTED; at += SINGLE)
+        refusal = resampler_start_word(images + at, SINGLE, kernel, word, phase);
+    return refusal;
+}
+
+static uint32_t feed_each(uint8_t *images, size_t length, const uint8_t *input, size_t input_length, uint8_t *output,
+                          size_t output_length)
+{
+    uint32_t refusal = RESAMPLER_ACCEPTED;
+    size_t bytes = input_length / FED, space = output_length / FED;
+    for (size_t at = 0; at < length && refusal == RESAMPLER_ACCEPTED; at += SINGLE) {
+        refusal = resampler_feed(images + at, SINGLE, input, bytes, output, space);
+        input += bytes;
+        output += space;
+    }
+    return refusal;
+}
+
+/* Whether an image of lanes, or sixteen images, hold what the image of lanes of the new one holds. */
+static int is_same(const uint8_t *image, size_t bytes, const uint8_t *of_new)
+{
+    uint8_t images[IMAGE];
+    for (size_t lane = 0; lane < FED; lane++) {
+        uint8_t *one = images + lane * SINGLE;
+        memcpy(one, of_new, SINGLE);
+        memcpy(one + RESAMPLER_AT_WINDOW, of_new + resampler_lane_window(lane), 8);
+        memcpy(one + RESAMPLER_AT_CLIPS, of_new + RESAMPLER_AT_LANE_CLIPS + 4 * lane, 4);
+    }
+    return memcmp(image, bytes == IMAGE ? images : of_new, bytes) == 0;
+}
+
+static const struct maker makers[] = {
+    {resampler_start_lanes_word, feed_at_once, RESAMPLER_LANES_BYTES},
+    {resampler_start_lanes_word, feed_plain, RESAMPLER_LANES_BYTES},
+    {start_each, feed_each, IMAGE},
+};
+static const size_t blocks[] = {16, 64, 2048};
+static const char columns[] = "lanes    plain C  16 calls lanes/C  lanes/16 calls";
+#define THIRD_ONE "sixteen calls"
+
+#else
+
+enum { FED = 1, IMAGE = SINGLE };
+
+static int is_same(const uint8_t *image, size_t bytes, const uint8_t *of_new)
+{
+    return memcmp(image, of_new, bytes) == 0;
+}
+
 #ifdef OLD
 start_function old_resampler_start_word;
 feed_function old_resampler_feed;
 #endif
 
-static const struct maker {
-    start_function *start;
-    feed_function *feed;
-} makers[] = {
-    {resampler_start_word, resampler_feed},
-    {resampler_start_word, plain_host_feed},
+static const struct maker makers[] = {
+    {resampler_start_word, resampler_feed, IMAGE},
+    {resampler_start_word, plain_host_feed, IMAGE},
 #ifdef OLD
-    {old_resampler_start_word, old_resampler_feed},
+    {old_resampler_start_word, old_resampler_feed, IMAGE},
 #endif
 };
+static const size_t blocks[] = {64, 16384};
+#ifdef OLD
+static const char columns[] = "new      new/C  new/old";
+#else
+static const char columns[] = "library  plain C  ratio";
+#endif
+#define THIRD_ONE "the older archive"
 
-enum { NEW, PLAIN, BEFORE, MAKERS = sizeof makers / sizeof makers[0] };
-enum { IMAGE = RESAMPLER_IMAGE_BYTES, SPACE = RESAMPLER_LARGEST_BUFFER };
+#endif
+
+enum { NEW, PLAIN, THIRD, MAKERS = sizeof makers / sizeof makers[0], BLOCKS = sizeof blocks / sizeof blocks[0] };
 enum { SAMPLES = 1 << 18, COUNTED_SAMPLES = 1 << 16, OUTPUT_BYTES = 4 * SAMPLES + SPACE, CALLS = 20000 };
-enum { ROWS = 32, ROUNDS = 8, RUNS = 50 }; /* the rounds lie apart in time, as other work on the machine does */
+enum { ROWS = 16 * BLOCKS, ROUNDS = 8, RUNS = 50 }; /* the rounds lie apart in time, as other work does */
 
-static uint8_t input[2 * SAMPLES], outputs[MAKERS][OUTPUT_BYTES];
+static uint8_t wave[2 * SAMPLES], input[2 * SAMPLES], outputs[MAKERS][OUTPUT_BYTES];
 static const char *dumps; /* where callgrind writes, or null where time is measured */
 static size_t samples = SAMPLES;
 
@@ -106,60 +191,9 @@ static void fill(int loud, int half)
         int32_t ramp = (int32_t)(phase >> 15) - 65536;
         int32_t triangle = (ramp < 0 ? -ramp : ramp) - 32768;
         int32_t noise = (int32_t)draw(&seed) - 32768;
-        resampler_put_sample(input, i,
+        resampler_put_sample(wave, i,
                              (int16_t)(loud ? noise : half ? noise / 256 : triangle * 7 / 8 + noise / 40));
     }
-}
-
-static void start(const struct maker *maker, uint8_t *image, uint32_t kernel, uint64_t word)
-{
-    if (maker->start(image, IMAGE, kernel, word, 0) != RESAMPLER_ACCEPTED)
-        fail("start refused");
-}
-
-/* Feeds all samples in blocks, and returns the time. */
-static double stream(const struct maker *maker, uint32_t kernel, uint64_t word, size_t block, uint8_t *to)
-{
-    uint8_t image[IMAGE];
-    feed_function *feed = maker->feed;
-    start(maker, image, kernel, word);
-    double began = now();
-    for (size_t at = 0; at < samples; at += block) {
-        if (feed(image, IMAGE, input + 2 * at, 2 * block, to, SPACE) != RESAMPLER_ACCEPTED)
-            fail("feed refused");
-        to += 2 * resampler_written(image);
-    }
-    return now() - began;
-}
-
-static void compare_outputs(void)
-{
-    for (size_t i = 1; i < MAKERS; i++)
-        if (memcmp(outputs[i], outputs[NEW], OUTPUT_BYTES) != 0)
-            fail(i == PLAIN ? "the outputs differ" : "the outputs differ from the older archive's");
-}
-
-/* Feeds all converters, compares what each call leaves, and returns the number of outputs. */
-static size_t compare(uint32_t kernel, uint64_t word, size_t block)
-{
-    uint8_t images[MAKERS][IMAGE];
-    size_t made = 0;
-    for (size_t i = 0; i < MAKERS; i++)
-        start(&makers[i], images[i], kernel, word);
-    memset(outputs, 0, sizeof outputs);
-    for (size_t at = 0; at < samples; at += block) {
-        uint32_t returned[MAKERS];
-        for (size_t i = 0; i < MAKERS; i++) {
-            returned[i] = makers[i].feed(images[i], IMAGE, input + 2 * at, 2 * block, outputs[i] + 2 * made, SPACE);
-            if (returned[i] != returned[NEW] || memcmp(images[i], images[NEW], IMAGE) != 0)
-                fail(i == PLAIN ? "the images differ" : "the images differ from the older archive's");
-        }
-        if (resampler_end(images[NEW]) != RESAMPLER_HUNGRY)
-            fail("too little space");
-        made += resampler_written(images[NEW]);
-    }
-    compare_outputs();
-    return made;
 }
 
 /* The times of one case: the best of each, and in each run the new one's over that of each. */
@@ -190,23 +224,105 @@ static double median(struct times *times, size_t maker)
     return times->ratios[maker][times->runs / 2];
 }
 
-/* A row of the table. */
+/* A row of the table. A call is lent so many bytes of input and of output; `made` counts the outputs of all calls. */
 struct row {
     uint32_t kernel;
     size_t block;
     double ratio;
+    uint64_t word;
+    size_t bytes, space;
     size_t made;
     struct times times;
 };
 
+/* Of a lane's block as many samples as have space for their outputs in one call. Lanes have just that space. */
+static void set_row(struct row *row, uint32_t kernel, size_t block, double ratio)
+{
+    size_t most = (size_t)(SPACE / 2 / FED * ratio);
+    row->kernel = kernel;
+    row->block = block < most ? block : most;
+    row->ratio = ratio;
+    row->word = (uint64_t)(ratio * 4294967296.0);
+    row->bytes = 2 * FED * row->block;
+    row->space = FED > 1 ? 2 * FED * (((row->block << 32) + row->word - 1) / row->word) : SPACE;
+}
+
+/* Lays the wave as the calls read it: each lane has a stretch of it, and each call the next block of every lane. */
+static void lay(size_t block)
+{
+    uint8_t *to = input;
+    for (size_t at = 0; (at + block) * FED <= samples; at += block)
+        for (size_t lane = 0; lane < FED; lane++, to += 2 * block)
+            memcpy(to, wave + 2 * (lane * (samples / FED) + at), 2 * block);
+}
+
+static void start(const struct maker *maker, uint8_t *image, uint32_t kernel, uint64_t word)
+{
+    if (maker->start(image, maker->image, kernel, word, 0) != RESAMPLER_ACCEPTED)
+        fail("start refused");
+}
+
+/* How far the outputs of the next call lie from those of this one. Lanes may leave gaps. */
+static size_t advance(const struct row *row, const uint8_t *image)
+{
+    return FED > 1 ? row->space : 2 * resampler_written(image);
+}
+
+/* Feeds all samples in blocks, and returns the time. */
+static double stream(const struct maker *maker, const struct row *row, uint8_t *to)
+{
+    uint8_t image[IMAGE];
+    feed_function *feed = maker->feed;
+    start(maker, image, row->kernel, row->word);
+    double began = now();
+    for (size_t at = 0; at + row->bytes <= 2 * samples; at += row->bytes) {
+        if (feed(image, maker->image, input + at, row->bytes, to, row->space) != RESAMPLER_ACCEPTED)
+            fail("feed refused");
+        to += advance(row, image);
+    }
+    return now() - began;
+}
+
+static void compare_outputs(void)
+{
+    for (size_t i = 1; i < MAKERS; i++)
+        if (memcmp(outputs[i], outputs[NEW], OUTPUT_BYTES) != 0)
+            fail(i == PLAIN ? "the outputs differ" : "the outputs differ from those of " THIRD_ONE);
+}
+
+/* Feeds all converters, compares what each call leaves, and returns the number of outputs. */
+static size_t compare(const struct row *row)
+{
+    uint8_t images[MAKERS][IMAGE];
+    size_t made = 0, place = 0;
+    for (size_t i = 0; i < MAKERS; i++)
+        start(&makers[i], images[i], row->kernel, row->word);
+    memset(outputs, 0, sizeof outputs);
+    for (size_t at = 0; at + row->bytes <= 2 * samples; at += row->bytes) {
+        uint32_t returned[MAKERS];
+        for (size_t i = 0; i < MAKERS; i++) {
+            returned[i] = makers[i].feed(images[i], makers[i].image, input + at, row->bytes, outputs[i] + place,
+                                         row->space);
+            if (returned[i] != returned[NEW] || !is_same(images[i], makers[i].image, images[NEW]))
+                fail(i == PLAIN ? "the images differ" : "the images differ from those of " THIRD_ONE);
+        }
+        if (resampler_end(images[NEW]) != RESAMPLER_HUNGRY)
+            fail("too little space");
+        made += FED * resampler_written(images[NEW]);
+        place += advance(row, images[NEW]);
+    }
+    compare_outputs();
+    return made;
+}
+
 static void time_row(struct row *row, int runs)
 {
-    uint64_t word = (uint64_t)(row->ratio * 4294967296.0);
-    row->made = compare(row->kernel, word, row->block);
+    lay(row->block);
+    row->made = compare(row);
     for (int k = 0; k < runs; k++) {
         double run[MAKERS];
         for (size_t i = 0; i < MAKERS; i++)
-            run[i] = stream(&makers[i], row->kernel, word, row->block, outputs[i]);
+            run[i] = stream(&makers[i], row, outputs[i]);
         add_run(&row->times, run);
     }
     compare_outputs();
@@ -220,7 +336,7 @@ static double empty(const struct maker *maker)
     start(maker, image, RESAMPLER_CUBIC, RESAMPLER_WORD_ONE);
     double began = now();
     for (int i = 0; i < CALLS; i++)
-        if (feed(image, IMAGE, input, 0, outputs[0], 0) != RESAMPLER_ACCEPTED)
+        if (feed(image, maker->image, input, 0, outputs[0], 0) != RESAMPLER_ACCEPTED)
             fail("feed refused");
     return (now() - began) / CALLS;
 }
@@ -239,7 +355,10 @@ static void time_empty(struct times *times, int runs)
 static void print_times(struct times *times, double made)
 {
     const double *best = times->best;
-    if (MAKERS > BEFORE)
+    if (FED > 1)
+        printf("%-8.2f %-8.2f %-8.2f %-8.2f %.2f\n", best[NEW] / made, best[PLAIN] / made, best[MAKERS - 1] / made,
+               median(times, PLAIN), median(times, MAKERS - 1));
+    else if (MAKERS > THIRD)
         printf("%-8.2f %-6.2f %.2f\n", best[NEW] / made, median(times, PLAIN), median(times, MAKERS - 1));
     else
         printf("%-8.2f %-8.2f %.2f\n", best[NEW] / made, best[PLAIN] / made, best[NEW] / best[PLAIN]);
@@ -247,7 +366,6 @@ static void print_times(struct times *times, double made)
 
 int main(int argc, char **argv)
 {
-    static const size_t blocks[] = {64, 16384};
     static const double ratios[] = {0.5, 0.9, 1.1, 3.7};
     static struct row rows[ROWS];
     static struct times calls;
@@ -260,19 +378,16 @@ int main(int argc, char **argv)
         argv += 2;
     }
     int loud = argc > 1 && strcmp(argv[1], "loud") == 0, half = argc > 1 && strcmp(argv[1], "half") == 0;
-    size_t words = half ? 1 : 4, count = 4 * 2 * words; /* kernels, blocks, words */
-    for (size_t i = 0; i < count; i++) {
-        rows[i].kernel = (uint32_t)(i / words / 2);
-        rows[i].block = blocks[i / words % 2];
-        rows[i].ratio = ratios[i % words];
-    }
+    size_t words = half ? 1 : 4, count = 4 * BLOCKS * words; /* kernels, blocks, words */
+    for (size_t i = 0; i < count; i++)
+        set_row(&rows[i], (uint32_t)(i / words / BLOCKS), blocks[i / words % BLOCKS], ratios[i % words]);
     fill(loud, half);
     for (int round = 0; round < rounds; round++) {
         for (size_t i = 0; i < count; i++)
             time_row(&rows[i], runs);
         time_empty(&calls, runs);
     }
-    printf("kernel  block  word/2^32  %s\n", MAKERS > BEFORE ? "new      new/C  new/old" : "library  plain C  ratio");
+    printf("kernel  block  word/2^32  %s\n", columns);
     for (struct row *row = rows; row < rows + count; row++) {
         printf("%-7u %-6zu %-10.1f ", (unsigned)row->kernel, row->block, row->ratio);
         print_times(&row->times, (double)row->made);

@@ -34,4 +34,8 @@ struct plain_fed plain_feed(struct plain_state *state, const int16_t *input, siz
 uint32_t plain_host_feed(uint8_t *image, size_t image_length, const uint8_t *input, size_t input_length,
                          uint8_t *output, size_t output_length);
 
+/* And over lanes, as `resampler_feed_lanes`: one lane after another. */
+uint32_t plain_host_feed_lanes(uint8_t *image, size_t image_length, uint32_t lanes, const uint8_t *input,
+                               size_t input_length, uint8_t *output, size_t output_length);
+
 #endif

@@ -5,6 +5,8 @@
    buffer and writes outputs to another. A retune sets another ratio of the rates. The host may copy an image,
    store it, and go on from it later, in another process or on another machine.
 
+   Up to sixteen signals on one clock, called lanes, can have one image, of 224 bytes, and one feed.
+
    Samples and outputs are byte pairs: 16 bits in two's complement, the low byte first.
 
    Every call returns 0 or the number of a refusal. A refused call changes no byte of any buffer.
@@ -23,7 +25,9 @@
    feed takes as many samples, writes as many outputs and ends as in the paper's run of document 01; and output k
    has that run's basepoint, and lies at most 1/2 + D/K from that run's value, which is exact at the full 32-bit
    fraction and held to 16 bits. D is the largest jump between neighbouring samples among those that the kernel
-   uses there, zeros before the first included; K is 16384, 16384, 8192 or 12288 by kernel. */
+   uses there, zeros before the first included; K is 16384, 16384, 8192 or 12288 by kernel. Of an image of lanes,
+   with feeds of lanes and with retunes of its first 40 bytes, all this holds for each lane that no accepted feed
+   left out. */
 #ifndef RESAMPLER_H
 #define RESAMPLER_H
 
@@ -56,8 +60,9 @@ extern "C" {
 /* Sizes. */
 #define RESAMPLER_IMAGE_BYTES 40
 #define RESAMPLER_SAMPLE_BYTES 2
-#define RESAMPLER_LARGEST_BUFFER 65536 /* bytes of input, and of output, in one feed */
-#define RESAMPLER_WINDOW 4             /* samples in an image */
+#define RESAMPLER_LARGEST_BUFFER 65536 /* bytes of input, and of output, in one feed, of all lanes together */
+#define RESAMPLER_WINDOW 4             /* samples in an image, of each lane */
+#define RESAMPLER_MOST_LANES 16
 
 /* The image. Its numbers have the low byte first. The counts and the end are those of the last accepted feed, 0
    after a start; on entry to a call they may be anything. */
@@ -72,18 +77,25 @@ extern "C" {
 #define RESAMPLER_AT_CLIPS 32   /* 4 bytes: clips among them */
 #define RESAMPLER_AT_END 36     /* 4 bytes: HUNGRY or FULL */
 
+/* The image of lanes begins with an image as above: what the lanes share, with the window and the clips of lane 0.
+   Samples taken, outputs written and the end are those of every lane that was fed. The clip counts too are those of the
+   last accepted feed, 0 for a lane that it left out; on entry to a call they may be anything. */
+#define RESAMPLER_AT_LANE_WINDOWS RESAMPLER_IMAGE_BYTES           /* 15 times 4 byte pairs: windows of lanes 1 to 15 */
+#define RESAMPLER_AT_LANE_CLIPS (RESAMPLER_AT_LANE_WINDOWS + 120) /* 16 times 4 bytes: clips of lanes 0 to 15 */
+#define RESAMPLER_LANES_BYTES (RESAMPLER_AT_LANE_CLIPS + 64)      /* 224, the whole image of lanes */
+
 #define RESAMPLER_HUNGRY 0
 #define RESAMPLER_FULL 1
 
-/* Refusals, as document 01 numbers them. This library returns 1 to 5 and 12; the others belong to the reader of frame
-   lines.
+/* Refusals, as document 01 numbers them, and 13. This library returns 1 to 5, 12 and 13; the others belong to the
+   reader of frame lines.
 
     1   kernel above 3
     2   ratio not finite, or below zero (minus zero is zero)
     3   output rate 0
     4   word 0 or above 2^34, after rounding
-    5   state with kernel above 3, word outside 1..2^34 or needed count above 4; image not 40 bytes or bytes 2, 3
-        not zero
+    5   state with kernel above 3, word outside 1..2^34 or needed count above 4; image not 40 bytes, for a start
+        or feed of lanes not 224, or bytes 2, 3 not zero
     6   no byte 10 in the first 270 or in the slice
     7   first letter not the one called for, or line empty
     8   another character than 0-9, A-F after the letter
@@ -91,6 +103,7 @@ extern "C" {
    10   check fails
    11   sample buffer shorter than the count
    12   host sample buffer of odd length or above 65,536 bytes
+   13   lane count 0 or above 16; samples of input, or places of output, not a multiple of it
 
    Where several apply a call returns the lowest, except that a retune tests 5 first. Whatever the refusal, every
    buffer is left as it came. */
@@ -101,6 +114,7 @@ extern "C" {
 #define RESAMPLER_BAD_WORD 4
 #define RESAMPLER_BAD_IMAGE 5
 #define RESAMPLER_BAD_BUFFER 12
+#define RESAMPLER_BAD_LANES 13
 
 /* Starts. The kernel is 0 to 3. The first output stands phase / 2^32 of a sample past the first sample; any
    phase will do. The setting is a word, a ratio of the rates (input / output), or the two rates in whole hertz:
@@ -115,9 +129,21 @@ uint32_t resampler_start_ratio(uint8_t *image, size_t image_length, uint32_t ker
 uint32_t resampler_start_rates(uint8_t *image, size_t image_length, uint32_t kernel, uint32_t fin, uint32_t fout,
                                uint32_t phase);
 
+/* Starts of lanes. They are as the starts above, and so are the refusals, but for an image of 224 bytes: all windows
+   are zeros, and all counts. */
+uint32_t resampler_start_lanes_word(uint8_t *image, size_t image_length, uint32_t kernel, uint64_t word,
+                                    uint32_t phase);
+uint32_t resampler_start_lanes_ratio(uint8_t *image, size_t image_length, uint32_t kernel, double ratio,
+                                     uint32_t phase);
+uint32_t resampler_start_lanes_rates(uint8_t *image, size_t image_length, uint32_t kernel, uint32_t fin,
+                                     uint32_t fout, uint32_t phase);
+
 /* Retunes. The setting becomes a word as in a start. An accepted retune replaces the eight bytes of the word, and
    leaves every other byte of the image as it is. So the next output stays where it was due, and the one after it
    lies the new word further on.
+
+   An image of lanes is retuned by its first 40 bytes, all lanes at once:
+       resampler_retune_word(image, RESAMPLER_IMAGE_BYTES, word)
 
    Refusals, in this order: 5, for any of its reasons; for a ratio 2, for rates 3; 4. */
 uint32_t resampler_retune_word(uint8_t *image, size_t image_length, uint64_t word);
@@ -142,6 +168,25 @@ uint32_t resampler_retune_rates(uint8_t *image, size_t image_length, uint32_t fi
 uint32_t resampler_feed(uint8_t *image, size_t image_length, const uint8_t *input, size_t input_length,
                         uint8_t *output, size_t output_length);
 
+/* A feed of lanes feeds lanes 0 to `lanes` - 1 of an image of lanes, each as a feed of that lane alone would. The input
+   has one lane's samples after another's: of n samples a lane, lane i has those from i n to i n + n - 1. The output
+   buffer is parted in the same way, and a lane's outputs lie at the front of its part; bytes past those written keep
+   their contents. Samples taken, outputs written and the end do not depend on the samples, and are the same for all
+   these lanes; how many outputs a feed writes at most, as above, is said of each. After FULL the samples that were not
+   taken lie apart, at the end of each lane's part; the host lays them one after another for the next call.
+
+   An accepted feed writes the whole image anew but for the windows of the lanes that it leaves out, from `lanes` on.
+   These keep their bytes, and their clip counts become 0. Calls may differ in their lane counts, but the register and
+   the needed count move on for every lane. So a lane that was left out has a window from another time, and what it
+   gives when it is fed again is no run of document 01.
+
+   Refusals, in this order: 5, for any of its reasons; 12, if the length of the whole input or of the whole output is
+   odd or above 65,536, so that sixteen lanes have at most 2,048 samples each in one call; 13, if there are no lanes or
+   more than 16, or if the number of samples in the input, or of places in the output, is not a multiple of `lanes`:
+   three samples are no input of two lanes. Both lengths may be 0. */
+uint32_t resampler_feed_lanes(uint8_t *image, size_t image_length, uint32_t lanes, const uint8_t *input,
+                              size_t input_length, uint8_t *output, size_t output_length);
+
 /* Each call is a macro of its own name too, so that #ifdef tells whether a header declares it. */
 #define resampler_start_word resampler_start_word
 #define resampler_start_ratio resampler_start_ratio
@@ -150,6 +195,10 @@ uint32_t resampler_feed(uint8_t *image, size_t image_length, const uint8_t *inpu
 #define resampler_retune_ratio resampler_retune_ratio
 #define resampler_retune_rates resampler_retune_rates
 #define resampler_feed resampler_feed
+#define resampler_start_lanes_word resampler_start_lanes_word
+#define resampler_start_lanes_ratio resampler_start_lanes_ratio
+#define resampler_start_lanes_rates resampler_start_lanes_rates
+#define resampler_feed_lanes resampler_feed_lanes
 
 /* Four bytes as a number, the low byte first. */
 static inline uint32_t resampler_number(const uint8_t *at)
@@ -157,11 +206,23 @@ static inline uint32_t resampler_number(const uint8_t *at)
     return at[0] | (uint32_t)at[1] << 8 | (uint32_t)at[2] << 16 | (uint32_t)at[3] << 24;
 }
 
-/* What the last accepted feed did. Samples and outputs are counted, not bytes. */
+/* What the last accepted feed did. Samples and outputs are counted, not bytes. Of an image of lanes they are those of
+   each lane, and the clips are those of lane 0. */
 static inline uint32_t resampler_taken(const uint8_t *image) { return resampler_number(image + RESAMPLER_AT_TAKEN); }
 static inline uint32_t resampler_written(const uint8_t *image) { return resampler_number(image + RESAMPLER_AT_WRITTEN); }
 static inline uint32_t resampler_clips(const uint8_t *image) { return resampler_number(image + RESAMPLER_AT_CLIPS); }
 static inline uint32_t resampler_end(const uint8_t *image) { return resampler_number(image + RESAMPLER_AT_END); }
+
+/* The clips of a lane, 0 to 15, in the last accepted feed of lanes, and where its window lies in an image of lanes. */
+static inline uint32_t resampler_lane_clips(const uint8_t *image, size_t lane)
+{
+    return resampler_number(image + RESAMPLER_AT_LANE_CLIPS + 4 * lane);
+}
+static inline size_t resampler_lane_window(size_t lane)
+{
+    return lane == 0 ? RESAMPLER_AT_WINDOW
+                     : RESAMPLER_AT_LANE_WINDOWS + (lane - 1) * RESAMPLER_WINDOW * RESAMPLER_SAMPLE_BYTES;
+}
 
 /* Sample `place` of a buffer, counted from 0. */
 static inline int16_t resampler_sample(const uint8_t *buffer, size_t place)

@@ -1,5 +1,6 @@
-/* A library with a mistake, which tests/drivers links in the place of the feed to see whether the drivers tell it. The
-   mistake is named by the variable PLANTED, and made in the third accepted feed that writes an output. */
+/* A library with a mistake, which tests/drivers links in the place of the feeds to see whether the drivers tell it. The
+   mistake is named by the variable PLANTED. It is made in the third accepted feed that writes an output; a mistake of
+   lanes in the first accepted feed of lanes in which it shows. */
 #include "resampler.h"
 
 #include <stdlib.h>
@@ -7,6 +8,8 @@
 
 uint32_t __real_resampler_feed(uint8_t *, size_t, const uint8_t *, size_t, uint8_t *, size_t);
 uint32_t __wrap_resampler_feed(uint8_t *, size_t, const uint8_t *, size_t, uint8_t *, size_t);
+uint32_t __real_resampler_feed_lanes(uint8_t *, size_t, uint32_t, const uint8_t *, size_t, uint8_t *, size_t);
+uint32_t __wrap_resampler_feed_lanes(uint8_t *, size_t, uint32_t, const uint8_t *, size_t, uint8_t *, size_t);
 
 static int planted(const char *name)
 {
@@ -36,4 +39,32 @@ uint32_t __wrap_resampler_feed(uint8_t *image, size_t image_length, const uint8_
     while (planted("hang"))
         continue;
     return planted("result") ? 4 : result;
+}
+
+/* Keeps a part of an image of lanes as it came. */
+static void keep(uint8_t *image, const uint8_t *before, size_t place, size_t bytes)
+{
+    memcpy(image + place, before + place, bytes);
+}
+
+uint32_t __wrap_resampler_feed_lanes(uint8_t *image, size_t image_length, uint32_t lanes, const uint8_t *input,
+                                     size_t input_length, uint8_t *output, size_t output_length)
+{
+    enum { WINDOW = RESAMPLER_WINDOW * RESAMPLER_SAMPLE_BYTES };
+    static int made;
+    uint8_t before[RESAMPLER_LANES_BYTES], right[RESAMPLER_LANES_BYTES];
+    memcpy(before, image, image_length < sizeof before ? image_length : sizeof before);
+    uint32_t result =
+        __real_resampler_feed_lanes(image, image_length, lanes, input, input_length, output, output_length);
+    if (result != 0 || made)
+        return result;
+    memcpy(right, image, sizeof right);
+    if (planted("lane clips"))
+        keep(image, before, RESAMPLER_AT_LANE_CLIPS, RESAMPLER_LANES_BYTES - RESAMPLER_AT_LANE_CLIPS);
+    if (planted("lane window") && lanes > 1) { /* that of lane 1, in the place of lane 2's */
+        memcpy(image + resampler_lane_window(2), image + resampler_lane_window(1), WINDOW);
+        keep(image, before, resampler_lane_window(1), WINDOW);
+    }
+    made = memcmp(image, right, sizeof right) != 0;
+    return result;
 }

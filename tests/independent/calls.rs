@@ -2,6 +2,7 @@
 
 use crate::host::{Answer, Call, Number, Role};
 use crate::image::{self, Field};
+use crate::lane_image;
 use std::collections::BTreeMap;
 
 const WIDTH: usize = 108;
@@ -59,8 +60,11 @@ pub fn difference(call: &Call, expected: &Answer, found: &Answer) -> String {
     "no difference".to_string()
 }
 
+type Layout = (&'static str, usize, fn() -> Vec<Field>);
+
 /// Buffers with fields, by name and length.
-const LAYOUTS: &[(&str, usize, &[Field])] = &[("image", image::LENGTH, &image::FIELDS)];
+const LAYOUTS: &[Layout] =
+    &[("image", image::LENGTH, image::fields), ("image", lane_image::LENGTH, lane_image::fields)];
 
 /// The numbers in a buffer: what each is called, its place and its bytes. A buffer without fields
 /// has samples, or bytes where its length is odd.
@@ -71,10 +75,10 @@ fn numbers(name: &str, length: usize) -> Vec<(String, usize, usize)> {
         return (0..length / size).map(|i| (format!("{name} {i}"), i * size, size)).collect();
     };
     let mut numbers = Vec::new();
-    for (field, place, size, count) in *fields {
-        for i in 0..*count {
-            let title = if *count == 1 { field.to_string() } else { format!("{field} {i}") };
-            numbers.push((title, place + i * size, *size));
+    for (field, place, size, count) in fields() {
+        for i in 0..count {
+            let title = if count == 1 { field.clone() } else { format!("{field} {i}") };
+            numbers.push((title, place + i * size, size));
         }
     }
     numbers
@@ -111,8 +115,8 @@ fn parts(bytes: &[u8]) -> Vec<String> {
         return vec!["-".to_string()];
     }
     if let Some((_, _, fields)) = LAYOUTS.iter().find(|(_, length, _)| *length == bytes.len()) {
-        let part = |&(_, place, size, count): &Field| digits(&bytes[place..place + size * count]);
-        return fields.iter().map(part).collect();
+        let part = |(_, place, size, count): Field| digits(&bytes[place..place + size * count]);
+        return fields().into_iter().map(part).collect();
     }
     let (mut parts, mut place, mut plain) = (Vec::new(), 0, 0);
     while place < bytes.len() {

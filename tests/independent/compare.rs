@@ -1,19 +1,23 @@
 //! The comparison of a library with the implementation and with the paper's run, over random chains
-//! of calls.
+//! of calls: on one converter, then on lanes.
 
 use crate::calls::{self, Left};
+use crate::compare_lanes::{Counts, LANES};
 use crate::generate::{self, Start};
 use crate::halves;
-use crate::host::{self, Answer, Call};
+use crate::host::{self, Answer, Call, Row};
 use crate::image;
 use crate::judge;
+use crate::lanes::MOST;
 use crate::library::Library;
 use crate::paper::Paper;
 use crate::random::Random;
 use crate::settings::Setting;
+use crate::state::{Fed, State};
 use crate::tally::Tally;
 
-/// How much to compare: chains are made until both numbers are reached.
+/// How much to compare: chains are made until both numbers are reached; on lanes a sixth of the
+/// calls is enough.
 pub struct Amount {
     pub outputs: u64,
     pub calls: u64,
@@ -23,56 +27,91 @@ pub struct Amount {
 /// Compares, prints the tables, and says what the first difference is, if there is one.
 pub fn run(amount: &Amount) -> Result<(), String> {
     let mut comparison = Comparison {
+        kind: &ALONE,
         library: Library::new(),
         random: Random(amount.seed),
-        tally: Tally::default(),
+        tally: Tally::over("calls", ALONE.has),
+        counts: Counts::default(),
     };
     comparison.halves()?;
-    loop {
-        let tally = &comparison.tally;
-        if tally.outputs() >= amount.outputs && tally.total_calls() >= amount.calls {
-            break;
-        }
-        comparison.chain()?;
-    }
-    comparison.tally.print();
+    comparison.chains(amount.calls, amount.outputs)?;
     comparison.tally.complete()?;
-    let (calls, outputs) = (comparison.tally.total_calls(), comparison.tally.outputs());
-    println!("{calls} calls agree, with {outputs} outputs; 0 differ");
-    Ok(())
+    comparison.kind = &LANES;
+    comparison.tally = Tally::over("lane calls", LANES.has);
+    comparison.lanes()?;
+    comparison.chains(amount.calls / 6, amount.outputs)?;
+    comparison.tell_lanes()?;
+    comparison.tally.complete()
 }
 
-struct Comparison {
-    library: Library,
-    random: Random,
-    tally: Tally,
+pub struct Comparison {
+    kind: &'static Kind,
+    pub library: Library,
+    pub random: Random,
+    pub tally: Tally,
+    pub counts: Counts,
+}
+
+/// What the images of chains are of, and the calls on them.
+pub struct Kind {
+    /// Whether a row of the table is one of its calls, and the names of those by the form of a
+    /// setting.
+    pub has: fn(&&Row) -> bool,
+    pub start: &'static str,
+    pub retune: &'static str,
+    pub length: usize,
+    /// Images and feeds at random; the last number is the lane count of most feeds of a chain.
+    pub wild: fn(&mut Random) -> Vec<u8>,
+    pub feed: fn(&mut Random, &[u8], u32) -> Call,
+    pub bad_feed: fn(&mut Random, &[u8], u32) -> Call,
+    /// The states in an image, and what a feed left of each.
+    pub states: fn(&[u8]) -> Result<Vec<State>, u32>,
+    pub fed: fn(&[u8]) -> Result<Vec<Fed>, u32>,
+    /// What else an accepted feed is held to.
+    pub also: fn(&mut Comparison, &Call, &Answer) -> Result<(), String>,
+}
+
+const ALONE: Kind = Kind {
+    has: |row| !(LANES.has)(row),
+    start: "start",
+    retune: "retune",
+    length: image::LENGTH,
+    wild: generate::wild_image,
+    feed: |random, image, _| generate::feed(random, image),
+    bad_feed: |random, image, _| generate::bad_feed(random, image),
+    states: |image| Ok(vec![image::decode(image)?]),
+    fed: |image| Ok(vec![image::fed(image)?]),
+    also: |_, _, _| Ok(()),
+};
+
+/// How many lanes a feed has: its one number, or one.
+pub fn count(feed: &Call) -> usize {
+    feed.numbers.first().map_or(1, |count| *count as usize)
 }
 
 /// An image that calls are made on, one after the other.
-struct Chain {
+pub struct Chain {
     image: Vec<u8>,
-    /// The paper's run beside it; none where the image is refused.
-    paper: Option<Paper>,
-    /// Whether the image comes from a start.
-    fresh: bool,
-}
-
-impl Chain {
-    /// From an image that need not come from a start.
-    fn stored(image: Vec<u8>) -> Chain {
-        let paper = image::decode(&image).ok().map(|state| Paper::resume(&state));
-        Chain { image, paper, fresh: false }
-    }
+    /// The paper's run beside each lane that the last feed reached; none where the image is refused.
+    papers: Vec<Paper>,
+    /// How many of them come from a start.
+    fresh: usize,
 }
 
 impl Comparison {
+    /// A chain from an image that need not come from a start.
+    pub fn stored(&self, image: Vec<u8>) -> Chain {
+        let states = (self.kind.states)(&image).unwrap_or_default();
+        Chain { image, papers: states.iter().map(Paper::resume).collect(), fresh: 0 }
+    }
+
     /// Single outputs from stored states that are hard to round.
     fn halves(&mut self) -> Result<(), String> {
         for kernel in 0..4 {
             let mut states = halves::exact(&mut self.random, kernel, 1000);
             states.extend(halves::narrow(&mut self.random, kernel));
             for state in states {
-                let mut chain = Chain::stored(image::encode_fresh(state));
+                let mut chain = self.stored(image::encode_fresh(state));
                 let call = host::feed(chain.image.clone(), Vec::new(), vec![0; 2]);
                 self.feed(&mut chain, &call)?;
             }
@@ -80,29 +119,41 @@ impl Comparison {
         Ok(())
     }
 
+    /// Makes chains until there are at least so many calls and outputs.
+    fn chains(&mut self, calls: u64, outputs: u64) -> Result<(), String> {
+        while !self.tally.reached(calls, outputs) {
+            self.chain()?;
+        }
+        self.tally.print();
+        Ok(())
+    }
+
+    /// Every second chain is mostly of all lanes, the others in turn of 1, 2 and so on.
     fn chain(&mut self) -> Result<(), String> {
         self.tally.chains += 1;
+        let turn = self.tally.chains as u32;
+        let usual = if turn % 2 == 0 { MOST as u32 } else { 1 + turn / 2 % MOST as u32 };
         let random = &mut self.random;
-        let mut image = generate::wild_image(random);
+        let mut image = (self.kind.wild)(random);
         if random.one_in(8) {
-            image = generate::damaged_image(random, &image);
+            image = generate::damaged_image(random, &image, self.kind.length);
         }
-        let mut chain = Chain::stored(image);
+        let mut chain = self.stored(image);
         if !self.random.one_in(4) {
             let start = generate::good_start(&mut self.random);
             self.start(&mut chain, start)?;
         }
         for _ in 0..1 + self.random.below(40) {
-            self.step(&mut chain)?;
+            self.step(&mut chain, usual)?;
         }
         Ok(())
     }
 
-    fn step(&mut self, chain: &mut Chain) -> Result<(), String> {
+    fn step(&mut self, chain: &mut Chain, usual: u32) -> Result<(), String> {
         let random = &mut self.random;
         match random.below(32) {
             0..=19 => {
-                let call = generate::feed(random, &chain.image);
+                let call = (self.kind.feed)(random, &chain.image, usual);
                 self.feed(chain, &call)
             }
             20..=24 => {
@@ -114,24 +165,25 @@ impl Comparison {
                 self.start(chain, start)
             }
             26 => {
-                let call = generate::bad_feed(random, &chain.image);
+                let call = (self.kind.bad_feed)(random, &chain.image, usual);
                 self.answer(&call).map(|_| ())
             }
-            _ => self.aside(chain),
+            _ => self.aside(chain, usual),
         }
     }
 
     /// A call on a damaged copy of the image, which the chain then leaves aside.
-    fn aside(&mut self, chain: &Chain) -> Result<(), String> {
-        let random = &mut self.random;
-        let damaged = generate::damaged_image(random, &chain.image);
+    fn aside(&mut self, chain: &Chain, usual: u32) -> Result<(), String> {
+        let (kind, random) = (self.kind, &mut self.random);
+        let damaged = generate::damaged_image(random, &chain.image, kind.length);
         let call = match random.below(4) {
-            0 => generate::feed(random, &damaged),
-            1 => generate::bad_feed(random, &damaged),
-            2 => host::retune(damaged, generate::setting(random)),
+            0 => (kind.feed)(random, &damaged, usual),
+            1 => (kind.bad_feed)(random, &damaged, usual),
+            2 => host::retune(kind.retune, damaged, generate::setting(random)),
             _ => {
                 let (kernel, setting, phase) = generate::start(random);
-                host::start(generate::wrong_length(random, damaged), kernel, setting, phase)
+                let image = generate::wrong_length(random, damaged, kind.length);
+                host::start(kind.start, image, kernel, setting, phase)
             }
         };
         self.answer(&call).map(|_| ())
@@ -139,46 +191,52 @@ impl Comparison {
 
     fn start(&mut self, chain: &mut Chain, start: Start) -> Result<(), String> {
         let (kernel, setting, phase) = start;
-        let answer = self.answer(&host::start(chain.image.clone(), kernel, setting, phase))?;
-        if answer.result == 0 {
-            chain.paper = Paper::start(kernel, setting, phase);
-            chain.fresh = true;
-        }
+        let image = chain.image.clone();
+        let answer = self.answer(&host::start(self.kind.start, image, kernel, setting, phase))?;
         chain.image = answer.buffers[0].clone();
+        if let (0, Ok(states)) = (answer.result, (self.kind.states)(&chain.image)) {
+            let paper = Paper::start(kernel, setting, phase);
+            chain.papers = paper.map_or(vec![], |paper| vec![paper; states.len()]);
+            chain.fresh = states.len();
+        }
         Ok(())
     }
 
     fn retune(&mut self, chain: &mut Chain, setting: Setting) -> Result<(), String> {
-        let call = host::retune(chain.image.clone(), setting);
+        let call = host::retune(self.kind.retune, chain.image.clone(), setting);
         let answer = self.answer(&call)?;
         chain.image = answer.buffers[0].clone();
-        if let (Some(paper), Ok(state)) = (&mut chain.paper, image::decode(&chain.image)) {
-            judge::retune(paper, setting, &state)
-                .map_err(|what| described(&what, &call, &answer))?;
-        }
-        Ok(())
+        let states = (self.kind.states)(&chain.image).unwrap_or_default();
+        judge::retune_lanes(&mut chain.papers, setting, &states)
+            .map_err(|what| described(&what, &call, &answer))
     }
 
-    /// A feed is held to demand 3 too, from a stored state as from a start.
-    fn feed(&mut self, chain: &mut Chain, call: &Call) -> Result<(), String> {
+    /// An accepted feed is held to demand 3 too, from a stored state as from a start.
+    pub fn feed(&mut self, chain: &mut Chain, call: &Call) -> Result<(), String> {
         let answer = self.answer(call)?;
-        chain.image = answer.buffers[0].clone();
-        if let Some(paper) = &mut chain.paper {
-            let kernel = paper.kernel();
-            let (input, output) =
-                (host::samples(&call.buffers[1]), host::samples(&answer.buffers[2]));
-            let told = |what: &str| described(what, call, &answer);
-            let fed = image::fed(&chain.image).map_err(|_| told("the image left is refused"))?;
-            let seen = |distance: &_| self.tally.hold(kernel, distance);
-            judge::feed(paper, &input, &output[..fed.written], output.len(), &fed, seen)
-                .map_err(|what| told(&what))?;
-            self.tally.fed(&fed, chain.fresh);
+        let before = std::mem::replace(&mut chain.image, answer.buffers[0].clone());
+        if answer.result != 0 {
+            return Ok(());
         }
-        Ok(())
+        let told = |what: &str| described(what, call, &answer);
+        let refused = |_| told("an image that is refused was accepted or left");
+        let before = (self.kind.states)(&before).map_err(refused)?;
+        let fed = (self.kind.fed)(&chain.image).map_err(refused)?;
+        let (count, kernel) = (count(call), before[0].kernel);
+        chain.papers.extend(before[..count].iter().skip(chain.papers.len()).map(Paper::resume));
+        chain.fresh = chain.fresh.min(count);
+        let (input, output) = (host::samples(&call.buffers[1]), host::samples(&answer.buffers[2]));
+        let seen = |distance: &_| self.tally.hold(kernel, distance);
+        judge::feed_lanes(&mut chain.papers, count, &input, &output, &fed, seen)
+            .map_err(|what| told(&what))?;
+        for (lane, fed) in fed[..count].iter().enumerate() {
+            self.tally.fed(fed, lane < chain.fresh);
+        }
+        (self.kind.also)(self, call, &answer)
     }
 
     /// Makes a call on both sides and compares what they answer and leave.
-    fn answer(&mut self, call: &Call) -> Result<Answer, String> {
+    pub fn answer(&mut self, call: &Call) -> Result<Answer, String> {
         let expected = host::answer(call);
         let answer = self.library.answer(call).map_err(|what| described(&what, call, &expected))?;
         if answer != expected {
@@ -192,7 +250,7 @@ impl Comparison {
     }
 }
 
-fn described(what: &str, call: &Call, expected: &Answer) -> String {
+pub fn described(what: &str, call: &Call, expected: &Answer) -> String {
     let block = calls::block(call, expected, &Left::new());
     format!("{what}\nthe call, with what is expected:\n{block}")
 }

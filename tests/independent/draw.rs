@@ -4,8 +4,9 @@
 use crate::settings::{Setting, LARGEST_WORD};
 use crate::state::State;
 
-/// The longest input and output that are drawn.
+/// The longest input and output that are drawn, for a converter alone and for lanes.
 pub const PLACES: usize = 40;
+pub const LANE_PLACES: usize = 160;
 
 /// The number that the next one is made of; a seed at first.
 pub struct Draw(pub u64);
@@ -20,6 +21,12 @@ impl Draw {
     /// A number of 32 bits.
     pub fn long(&mut self) -> u64 {
         self.below(65536) << 16 | self.below(65536)
+    }
+
+    /// Any number, every second one or so a kernel's.
+    pub fn kernel(&mut self) -> u32 {
+        let limit = if self.below(2) == 0 { 256 } else { 4 };
+        self.below(limit) as u32
     }
 
     fn word(&mut self) -> u64 {
@@ -99,6 +106,14 @@ impl Draw {
     pub fn length(&mut self) -> usize {
         let limit = if self.below(4) == 0 { 4 } else { PLACES as u64 + 1 };
         self.below(limit) as usize
+    }
+
+    /// A number of samples for so many lanes, from 0 to `LANE_PLACES`: mostly a multiple.
+    pub fn lane_length(&mut self, count: u32) -> usize {
+        match self.below(8) {
+            0 => self.below(LANE_PLACES as u64 + 1) as usize,
+            _ => self.below(9) as usize * count as usize,
+        }
     }
 
     /// A state that is accepted, whether or not a run reaches it, or one with a field that is not.

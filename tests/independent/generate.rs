@@ -2,6 +2,8 @@
 
 use crate::host::{self, Call, LARGEST_BUFFER};
 use crate::image;
+use crate::lane_image;
+use crate::lanes;
 use crate::random::Random;
 use crate::settings::{Setting, LARGEST_WORD};
 use crate::state::State;
@@ -156,16 +158,25 @@ pub fn feed(random: &mut Random, image: &[u8]) -> Call {
         // Both long, so that large words make many outputs too.
         (taken, written) = (32768 - taken / 2, 32768 - written / 2);
     }
-    let output = match random.below(2) {
-        0 => vec![0xee; 2 * written],
-        _ => random.bytes(2 * written),
-    };
+    let output = places(random, written);
     host::feed(image.to_vec(), host::bytes(&samples(random, taken)), output)
+}
+
+/// The bytes of so many output places before a feed.
+fn places(random: &mut Random, count: usize) -> Vec<u8> {
+    match random.below(2) {
+        0 => vec![0xee; 2 * count],
+        _ => random.bytes(2 * count),
+    }
 }
 
 /// A feed with a buffer, or both, of a length that is refused.
 pub fn bad_feed(random: &mut Random, image: &[u8]) -> Call {
-    let mut call = feed(random, image);
+    let call = feed(random, image);
+    spoilt(random, call)
+}
+
+fn spoilt(random: &mut Random, mut call: Call) -> Call {
     let which = random.below(3);
     let largest = LARGEST_BUFFER as u64;
     for (buffer, spoilt) in call.buffers[1..].iter_mut().zip([which != 1, which != 0]) {
@@ -200,10 +211,10 @@ pub fn wild_image(random: &mut Random) -> Vec<u8> {
     image
 }
 
-/// An image that is refused, made from a good one by one to three damages.
-pub fn damaged_image(random: &mut Random, good: &[u8]) -> Vec<u8> {
+/// An image that is refused, made from a good one of so many bytes by one to three damages.
+pub fn damaged_image(random: &mut Random, good: &[u8], length: usize) -> Vec<u8> {
     let mut image = good.to_vec();
-    image.resize(image::LENGTH, 0);
+    image.resize(length, 0);
     for _ in 0..=random.magnitude(1) + random.magnitude(1) {
         match random.below(6) {
             0 => image[image::ZEROS + random.below(2) as usize] = 1 + random.below(255) as u8,
@@ -214,21 +225,77 @@ pub fn damaged_image(random: &mut Random, good: &[u8]) -> Vec<u8> {
                 let word = random.pick(&[LARGEST_WORD + 1, 1 << 63, u64::MAX, 1 << 35]);
                 image[image::WORD..image::WINDOW].copy_from_slice(&word.to_le_bytes());
             }
-            _ => return wrong_length(random, image),
+            _ => return wrong_length(random, image, length),
         }
     }
     image
 }
 
-/// An image of a wrong length.
-pub fn wrong_length(random: &mut Random, mut image: Vec<u8>) -> Vec<u8> {
+/// An image of another length than the right one.
+pub fn wrong_length(random: &mut Random, mut image: Vec<u8>, right: usize) -> Vec<u8> {
     let length = match random.below(4) {
         0 => 0,
-        1 => image::LENGTH - 1,
-        2 => image::LENGTH + 1,
+        1 => right - 1,
+        2 => right + 1,
         _ => random.below(100) as usize,
     };
-    let right = length == image::LENGTH;
-    image.resize(if right { 2 * image::LENGTH } else { length }, 0);
+    image.resize(if length == right { 2 * right } else { length }, 0);
     image
+}
+
+/// Stored lanes that need not come from a start, with any counts.
+pub fn wild_lanes(random: &mut Random) -> Vec<u8> {
+    let mut image = wild_image(random);
+    for _ in 1..lanes::MOST {
+        image.extend(host::bytes(&samples(random, 4)));
+    }
+    let clips = random.bytes(lane_image::LENGTH - lane_image::CLIPS);
+    image.extend(clips);
+    image
+}
+
+/// A number of samples for each of so many lanes: all together at most 32,768.
+fn lane_length(random: &mut Random, count: u32) -> usize {
+    let most = LARGEST_BUFFER as u64 / 2 / count as u64;
+    let length = match random.below(80) {
+        0 => random.pick(&[most - 1, most]),
+        1 => random.below(most + 1),
+        2..=19 => random.below(6),
+        _ => random.magnitude(6),
+    };
+    length as usize
+}
+
+/// A feed of so many lanes, or now and then of another number of them, with lengths that are
+/// accepted.
+pub fn feed_lanes(random: &mut Random, image: &[u8], usual: u32) -> Call {
+    let any = 1 + random.below(lanes::MOST as u64) as u32;
+    let count = random.pick(&[usual, usual, usual, any]);
+    let (taken, written) = (lane_length(random, count), lane_length(random, count));
+    let input = (0..count).flat_map(|_| samples(random, taken)).collect::<Vec<i16>>();
+    let output = places(random, written * count as usize);
+    host::feed_lanes(image.to_vec(), count, host::bytes(&input), output)
+}
+
+/// Lane counts that are refused: around the limits, and with good ones in their low bits.
+pub const BAD_COUNTS: [u32; 9] = [0, 17, 18, 255, 257, 65552, 1 << 31 | 1, u32::MAX - 15, u32::MAX];
+
+/// A feed of lanes that is refused with 12 or 13, but for a few: the lane count, a number of samples
+/// that is no multiple, or a length, and now and then several of them.
+pub fn bad_feed_lanes(random: &mut Random, image: &[u8], usual: u32) -> Call {
+    let count = random.pick(&[usual, lanes::MOST as u32 + 1]);
+    let mut call = feed_lanes(random, image, count);
+    let faults = random.below(8);
+    if faults & 1 != 0 {
+        call.numbers[0] = random.pick(&BAD_COUNTS) as u64;
+    }
+    if faults & 2 != 0 {
+        let buffer = 1 + random.below(2) as usize;
+        let length = call.buffers[buffer].len() + 2 + 2 * random.below(15) as usize;
+        call.buffers[buffer].resize(length, 0x55);
+    }
+    match faults & 4 {
+        0 => call,
+        _ => spoilt(random, call),
+    }
 }

@@ -2,6 +2,8 @@
 //! and which of them it may write, what it must answer, and how it is made in C.
 
 use crate::image;
+use crate::lane_image;
+use crate::lanes;
 use crate::settings::Setting;
 use crate::state;
 
@@ -77,31 +79,58 @@ macro_rules! rows {
 }
 
 rows! { |n, b|
-    feed, &[], FEED, &[0, 5, 12], fed,
+    feed, &[], FEED, &[0, 5, 12], fed_alone,
         resampler_feed(b[0].at => *mut u8, b[0].length => usize, b[1].at => *const u8,
             b[1].length => usize, b[2].at => *mut u8, b[2].length => usize);
     start_word, &[Whole; 3], IMAGE, &[0, 1, 4, 5],
-        |call| started(call, Setting::Word(call.numbers[1])),
+        |call| started(call, Setting::Word(call.numbers[1]), fresh),
         resampler_start_word(b[0].at => *mut u8, b[0].length => usize, n[0] as u32 => u32,
             n[1] => u64, n[2] as u32 => u32);
     start_ratio, &[Whole, Float, Whole], IMAGE, &[0, 1, 2, 4, 5],
-        |call| started(call, Setting::Ratio(call.numbers[1])),
+        |call| started(call, Setting::Ratio(call.numbers[1]), fresh),
         resampler_start_ratio(b[0].at => *mut u8, b[0].length => usize, n[0] as u32 => u32,
             f64::from_bits(n[1]) => f64, n[2] as u32 => u32);
     start_rates, &[Whole; 4], IMAGE, &[0, 1, 3, 4, 5],
-        |call| started(call, rates(&call.numbers[1..3])),
+        |call| started(call, rates(&call.numbers[1..3]), fresh),
         resampler_start_rates(b[0].at => *mut u8, b[0].length => usize, n[0] as u32 => u32,
             n[1] as u32 => u32, n[2] as u32 => u32, n[3] as u32 => u32);
     retune_word, &[Whole], IMAGE, &[0, 4, 5],
-        |call| retuned(call, Setting::Word(call.numbers[0])),
+        |call| retuned(call, Setting::Word(call.numbers[0]), whole),
         resampler_retune_word(b[0].at => *mut u8, b[0].length => usize, n[0] => u64);
     retune_ratio, &[Float], IMAGE, &[0, 2, 4, 5],
-        |call| retuned(call, Setting::Ratio(call.numbers[0])),
+        |call| retuned(call, Setting::Ratio(call.numbers[0]), whole),
         resampler_retune_ratio(b[0].at => *mut u8, b[0].length => usize,
             f64::from_bits(n[0]) => f64);
-    retune_rates, &[Whole; 2], IMAGE, &[0, 3, 4, 5], |call| retuned(call, rates(&call.numbers)),
+    retune_rates, &[Whole; 2], IMAGE, &[0, 3, 4, 5],
+        |call| retuned(call, rates(&call.numbers), whole),
         resampler_retune_rates(b[0].at => *mut u8, b[0].length => usize, n[0] as u32 => u32,
             n[1] as u32 => u32);
+    feed_lanes, &[Whole], FEED, &[0, 5, 12, 13], fed_lanes,
+        resampler_feed_lanes(b[0].at => *mut u8, b[0].length => usize, n[0] as u32 => u32,
+            b[1].at => *const u8, b[1].length => usize, b[2].at => *mut u8, b[2].length => usize);
+    start_lanes_word, &[Whole; 3], IMAGE, &[0, 1, 4, 5],
+        |call| started(call, Setting::Word(call.numbers[1]), fresh_lanes),
+        resampler_start_lanes_word(b[0].at => *mut u8, b[0].length => usize, n[0] as u32 => u32,
+            n[1] => u64, n[2] as u32 => u32);
+    start_lanes_ratio, &[Whole, Float, Whole], IMAGE, &[0, 1, 2, 4, 5],
+        |call| started(call, Setting::Ratio(call.numbers[1]), fresh_lanes),
+        resampler_start_lanes_ratio(b[0].at => *mut u8, b[0].length => usize, n[0] as u32 => u32,
+            f64::from_bits(n[1]) => f64, n[2] as u32 => u32);
+    start_lanes_rates, &[Whole; 4], IMAGE, &[0, 1, 3, 4, 5],
+        |call| started(call, rates(&call.numbers[1..3]), fresh_lanes),
+        resampler_start_lanes_rates(b[0].at => *mut u8, b[0].length => usize, n[0] as u32 => u32,
+            n[1] as u32 => u32, n[2] as u32 => u32, n[3] as u32 => u32);
+    retune_lanes_word, &[Whole], IMAGE, &[0, 4, 5],
+        |call| retuned(call, Setting::Word(call.numbers[0]), front),
+        resampler_retune_word(b[0].at => *mut u8, front(b[0].length) => usize, n[0] => u64);
+    retune_lanes_ratio, &[Float], IMAGE, &[0, 2, 4, 5],
+        |call| retuned(call, Setting::Ratio(call.numbers[0]), front),
+        resampler_retune_ratio(b[0].at => *mut u8, front(b[0].length) => usize,
+            f64::from_bits(n[0]) => f64);
+    retune_lanes_rates, &[Whole; 2], IMAGE, &[0, 3, 4, 5],
+        |call| retuned(call, rates(&call.numbers), front),
+        resampler_retune_rates(b[0].at => *mut u8, front(b[0].length) => usize,
+            n[0] as u32 => u32, n[1] as u32 => u32);
 }
 
 /// A call of a row, by the row's name.
@@ -114,15 +143,21 @@ pub fn feed(image: Vec<u8>, input: Vec<u8>, output: Vec<u8>) -> Call {
     call("feed", Vec::new(), vec![image, input, output])
 }
 
-pub fn start(image: Vec<u8>, kernel: u32, setting: Setting, phase: u32) -> Call {
-    let (form, numbers) = parts(setting);
-    let numbers = [&[kernel as u64], &numbers[..], &[phase as u64]].concat();
-    call(&format!("start_{form}"), numbers, vec![image])
+pub fn feed_lanes(image: Vec<u8>, count: u32, input: Vec<u8>, output: Vec<u8>) -> Call {
+    call("feed_lanes", vec![count as u64], vec![image, input, output])
 }
 
-pub fn retune(image: Vec<u8>, setting: Setting) -> Call {
+/// A start by the form of the setting; the name is "start" or "start_lanes".
+pub fn start(name: &str, image: Vec<u8>, kernel: u32, setting: Setting, phase: u32) -> Call {
     let (form, numbers) = parts(setting);
-    call(&format!("retune_{form}"), numbers, vec![image])
+    let numbers = [&[kernel as u64], &numbers[..], &[phase as u64]].concat();
+    call(&format!("{name}_{form}"), numbers, vec![image])
+}
+
+/// The same for a retune; the name is "retune" or "retune_lanes".
+pub fn retune(name: &str, image: Vec<u8>, setting: Setting) -> Call {
+    let (form, numbers) = parts(setting);
+    call(&format!("{name}_{form}"), numbers, vec![image])
 }
 
 /// The end of a call's name by the form of a setting, and the setting's numbers.
@@ -146,38 +181,81 @@ pub fn answer(call: &Call) -> Answer {
     }
 }
 
-/// Refusals 1 to 4, then 5: "The lowest that applies is returned". The phase is the last number.
-fn started(call: &Call, setting: Setting) -> Result<Vec<Vec<u8>>, u32> {
+/// Refusals 1 to 4, then 5: "The lowest that applies is returned". The phase is the last number;
+/// `image` makes the image that an accepted start writes.
+fn started(
+    call: &Call,
+    setting: Setting,
+    image: fn(u32, Setting, u32) -> Result<Vec<u8>, u32>,
+) -> Result<Vec<Vec<u8>>, u32> {
     let phase = call.numbers[call.numbers.len() - 1] as u32;
-    let state = state::start(call.numbers[0] as u32, setting, phase)?;
-    if call.buffers[0].len() != image::LENGTH {
+    let image = image(call.numbers[0] as u32, setting, phase)?;
+    if call.buffers[0].len() != image.len() {
         return Err(5);
     }
-    Ok(vec![image::encode_fresh(state)])
+    Ok(vec![image])
 }
 
-/// "retune tests 5 first"; "Retune replaces the word only."
-fn retuned(call: &Call, setting: Setting) -> Result<Vec<Vec<u8>>, u32> {
+fn fresh(kernel: u32, setting: Setting, phase: u32) -> Result<Vec<u8>, u32> {
+    state::start(kernel, setting, phase).map(image::encode_fresh)
+}
+
+fn fresh_lanes(kernel: u32, setting: Setting, phase: u32) -> Result<Vec<u8>, u32> {
+    lanes::start(kernel, setting, phase).map(lane_image::encode_fresh)
+}
+
+/// "retune tests 5 first"; "Retune replaces the word only." It is lent the first bytes of the image,
+/// as many as `lent` says of its length.
+fn retuned(call: &Call, setting: Setting, lent: fn(usize) -> usize) -> Result<Vec<Vec<u8>>, u32> {
     let mut image = call.buffers[0].clone();
-    let word = state::retune(image::decode(&image)?, setting)?.word;
+    let state = image::decode(&image[..lent(image.len())])?;
+    let word = state::retune(state, setting)?.word;
     image[image::WORD..image::WINDOW].copy_from_slice(&word.to_le_bytes());
     Ok(vec![image])
+}
+
+fn whole(length: usize) -> usize {
+    length
+}
+
+/// Of an image of lanes a retune is lent lane 0's image, which has the word that all lanes share.
+fn front(length: usize) -> usize {
+    length.min(image::LENGTH)
 }
 
 /// "12: host sample buffer of odd length or above 65,536 bytes"
 pub const LARGEST_BUFFER: usize = 65536;
 
 /// "The host call feeds from an input buffer to an output buffer and, when accepted, writes the
-/// whole image anew; output bytes past those written keep their contents."
-fn fed(call: &Call) -> Result<Vec<Vec<u8>>, u32> {
+/// whole image anew; output bytes past those written keep their contents." Refusal 5 is that of
+/// `decode`; `feed` makes the image.
+fn fed<T>(
+    call: &Call,
+    decode: fn(&[u8]) -> Result<T, u32>,
+    feed: impl Fn(T, &[i16], &mut [i16]) -> Result<Vec<u8>, u32>,
+) -> Result<Vec<Vec<u8>>, u32> {
     let [image, input, output] = &call.buffers[..] else { panic!("a feed has three buffers") };
-    let state = image::decode(image)?;
+    let state = decode(image)?;
     if [input, output].iter().any(|buffer| buffer.len() % 2 == 1 || buffer.len() > LARGEST_BUFFER) {
         return Err(12);
     }
     let mut places = samples(output);
-    let fed = state::feed(state, &samples(input), &mut places)?;
-    Ok(vec![image::encode(&fed), input.clone(), bytes(&places)])
+    let image = feed(state, &samples(input), &mut places)?;
+    Ok(vec![image, input.clone(), bytes(&places)])
+}
+
+fn fed_alone(call: &Call) -> Result<Vec<Vec<u8>>, u32> {
+    fed(call, image::decode, |state, input, output| {
+        state::feed(state, input, output).map(|fed| image::encode(&fed))
+    })
+}
+
+/// The lane count is the one number. Refusal 13 comes after 12, which is that of a whole buffer.
+fn fed_lanes(call: &Call) -> Result<Vec<Vec<u8>>, u32> {
+    let count = call.numbers[0] as u32;
+    fed(call, lane_image::decode, |lanes, input, output| {
+        lanes::feed(lanes, count, input, output).map(|fed| lane_image::encode(&fed))
+    })
 }
 
 /// "The host's samples are byte pairs, little-endian."

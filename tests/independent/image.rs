@@ -11,22 +11,26 @@ pub const REGISTER: usize = 4;
 pub const WORD: usize = 8;
 pub const WINDOW: usize = 16;
 pub const COUNTS: usize = 24;
+pub const CLIPS: usize = COUNTS + 8;
 
 /// A field of a buffer: its name, its place, the bytes of a number, and how many numbers it has.
-pub type Field = (&'static str, usize, usize, usize);
+pub type Field = (String, usize, usize, usize);
 
-pub const FIELDS: [Field; 10] = [
-    ("kernel", KERNEL, 1, 1),
-    ("needed", NEEDED, 1, 1),
-    ("zeros", ZEROS, 2, 1),
-    ("register", REGISTER, 4, 1),
-    ("word", WORD, 8, 1),
-    ("window", WINDOW, 2, 4),
-    ("taken", COUNTS, 4, 1),
-    ("written", COUNTS + 4, 4, 1),
-    ("clips", COUNTS + 8, 4, 1),
-    ("end", COUNTS + 12, 4, 1),
-];
+pub fn fields() -> Vec<Field> {
+    let fields = [
+        ("kernel", KERNEL, 1, 1),
+        ("needed", NEEDED, 1, 1),
+        ("zeros", ZEROS, 2, 1),
+        ("register", REGISTER, 4, 1),
+        ("word", WORD, 8, 1),
+        ("window", WINDOW, 2, 4),
+        ("taken", COUNTS, 4, 1),
+        ("written", COUNTS + 4, 4, 1),
+        ("clips", CLIPS, 4, 1),
+        ("end", COUNTS + 12, 4, 1),
+    ];
+    fields.map(|(name, place, size, count)| (name.to_string(), place, size, count)).to_vec()
+}
 
 /// The state in an image, or refusal 5: "image not 40 bytes or bytes 2, 3 not zero", or a state
 /// that is refused. Taken, written, clips and end are "anything on entry".

@@ -2,6 +2,7 @@
 //! what differs.
 
 use crate::kernels;
+use crate::lanes;
 use crate::paper::{Distance, Page, Paper};
 use crate::settings::Setting;
 use crate::state::{End, Fed, State};
@@ -40,10 +41,39 @@ pub fn feed(
     Ok(page)
 }
 
+/// The same for a feed of so many lanes, each with a run of its own. The output is all that the
+/// feed was lent. The lanes that it did not reach have no run from then on.
+pub fn feed_lanes(
+    papers: &mut Vec<Paper>,
+    count: usize,
+    input: &[i16],
+    output: &[i16],
+    fed: &[Fed],
+    mut seen: impl FnMut(&Distance),
+) -> Result<(), String> {
+    papers.truncate(count);
+    each(papers, |lane, paper| {
+        let input = &input[lanes::part(input.len(), count, lane)];
+        let places = &output[lanes::part(output.len(), count, lane)];
+        let fed = &fed[lane];
+        let outputs = places.get(..fed.written).ok_or("the feed wrote more than its space")?;
+        feed(paper, input, outputs, places.len(), fed, &mut seen).map(|_| ())
+    })
+}
+
 /// Runs a retune on paper and holds the state that it returned against it.
 pub fn retune(paper: &mut Paper, setting: Setting, returned: &State) -> Result<(), String> {
     paper.retune(setting);
     state(paper, returned)
+}
+
+/// The same for lanes, each with a run of its own.
+pub fn retune_lanes(
+    papers: &mut [Paper],
+    setting: Setting,
+    returned: &[State],
+) -> Result<(), String> {
+    each(papers, |lane, paper| retune(paper, setting, &returned[lane]))
 }
 
 /// A call returned the state that the card has on paper by now.
@@ -53,6 +83,24 @@ pub fn state(paper: &Paper, returned: &State) -> Result<(), String> {
         true => Ok(()),
         false => Err(format!("the call returned {returned:?}; on paper it is {expected:?}")),
     }
+}
+
+/// The same for lanes, each with a run of its own.
+pub fn lanes(papers: &mut [Paper], returned: &[State]) -> Result<(), String> {
+    each(papers, |lane, paper| state(paper, &returned[lane]))
+}
+
+/// Judges each lane, and tells which one an error is of, if there are several.
+fn each(
+    papers: &mut [Paper],
+    mut judge: impl FnMut(usize, &mut Paper) -> Result<(), String>,
+) -> Result<(), String> {
+    let several = papers.len() > 1;
+    let told = |lane: usize, what| if several { format!("lane {lane}: {what}") } else { what };
+    papers
+        .iter_mut()
+        .enumerate()
+        .try_for_each(|(lane, paper)| judge(lane, paper).map_err(|what| told(lane, what)))
 }
 
 /// "card output k equals the value of demand 2 at the paper's basepoint and at m of the paper's

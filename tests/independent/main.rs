@@ -8,6 +8,8 @@ mod calls;
 mod cases;
 #[cfg(library)]
 mod compare;
+#[cfg(library)]
+mod compare_lanes;
 mod draw;
 mod frames;
 mod generate;
@@ -16,6 +18,9 @@ mod host;
 mod image;
 mod judge;
 mod kernels;
+mod lane_image;
+mod lane_runs;
+mod lanes;
 #[cfg(library)]
 mod library;
 mod listings;

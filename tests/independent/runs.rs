@@ -1,19 +1,21 @@
-//! What the program `check_runs` must write: for each of six groups of drawn lists of calls a hash
+//! What the program `check_runs` must write: for each of seven groups of drawn lists of calls a hash
 //! over all that the calls answered, and totals. A list that begins with an accepted start is also
 //! held to demand 3, call by call.
 
 use crate::draw::{Draw, PLACES};
 use crate::judge;
+use crate::lane_runs;
 use crate::paper::Paper;
 use crate::settings::Setting;
 use crate::state::{self, End, Fed, State};
 
-const GROUPS: [&str; 6] =
-    ["kernel 0", "kernel 1", "kernel 2", "kernel 3", "any kernel", "states handed in"];
+const GROUPS: [&str; 7] =
+    ["kernel 0", "kernel 1", "kernel 2", "kernel 3", "any kernel", "states handed in", "lanes"];
 const HANDED_IN: usize = 5;
+const LANES: usize = 6;
 /// The lists of a group, and the calls of a list after its start.
 const LISTS: usize = 200;
-const CALLS: usize = 12;
+pub const CALLS: usize = 12;
 
 pub fn lines() -> Result<String, String> {
     (0..GROUPS.len()).map(line).collect()
@@ -23,7 +25,11 @@ fn line(number: usize) -> Result<String, String> {
     let name = GROUPS[number];
     let mut group = Group { number, draw: Draw(number as u64), tally: Tally::default() };
     for list in 0..LISTS {
-        group.list().map_err(|what| format!("{name}, list {list}: {what}"))?;
+        let done = match number {
+            LANES => lane_runs::list(&mut group.draw, &mut group.tally),
+            _ => group.list(),
+        };
+        done.map_err(|what| format!("{name}, list {list}: {what}"))?;
     }
     let Tally { hash, calls, taken, written, clips, refused } = group.tally;
     Ok(format!(
@@ -34,7 +40,7 @@ fn line(number: usize) -> Result<String, String> {
 
 /// The calls of a group: a hash of what they answered, and totals.
 #[derive(Default)]
-struct Tally {
+pub struct Tally {
     hash: u64,
     calls: usize,
     taken: usize,
@@ -56,25 +62,27 @@ impl Tally {
         }
     }
 
-    /// A call that returned the state, and a refusal or 0.
-    fn answered(&mut self, state: &State, refusal: u32) {
+    /// A call that returned the state, of lanes with the windows of the others, and a refusal or 0.
+    pub fn answered(&mut self, state: &State, others: &[[i16; 4]], refusal: u32) {
         let State { kernel, needed, register, word, window } = *state;
         self.mix(&[kernel.into(), needed.into(), register.into(), word % (1 << 32), word >> 32]);
         self.mix_samples(&window);
+        self.mix_samples(others.as_flattened());
         self.mix(&[refusal.into()]);
         self.calls += 1;
         self.refused += (refusal != 0) as usize;
     }
 
-    /// A feed, and the whole buffer that its output places are the first of.
-    fn fed(&mut self, fed: &Fed, refusal: u32, buffer: &[i16]) {
-        self.answered(&fed.state, refusal);
-        let full = fed.end == End::Full;
-        self.mix(&[fed.taken as u64, fed.written as u64, fed.clips as u64, full.into()]);
+    /// A feed after its answer, with the clips of each lane, and the whole buffer that its output
+    /// places are the first of.
+    pub fn fed(&mut self, fed: &Fed, clips: &[usize], buffer: &[i16]) {
+        self.mix(&[fed.taken as u64, fed.written as u64]);
+        clips.iter().for_each(|&clips| self.mix(&[clips as u64]));
+        self.mix(&[(fed.end == End::Full).into()]);
         self.mix_samples(buffer);
         self.taken += fed.taken;
         self.written += fed.written;
-        self.clips += fed.clips;
+        self.clips += clips.iter().sum::<usize>();
     }
 }
 
@@ -103,24 +111,20 @@ impl Group {
         Ok(())
     }
 
-    /// The kernel of the group, or any number, every second one or so a kernel's.
+    /// The kernel of the group, or any.
     fn kernel(&mut self) -> u32 {
         match self.number {
             0..=3 => self.number as u32,
-            _ => {
-                let limit = if self.draw.below(2) == 0 { 256 } else { 4 };
-                self.draw.below(limit) as u32
-            }
+            _ => self.draw.kernel(),
         }
     }
 
     /// A refused start returns "no state": all zeros, which every later call refuses.
     fn start(&mut self) -> Result<List, String> {
         let (kernel, setting, phase) = (self.kernel(), self.draw.setting(), self.draw.phase());
-        let none = State { kernel: 0, needed: 0, register: 0, word: 0, window: [0; 4] };
         let answer = state::start(kernel, setting, phase);
-        let state = answer.unwrap_or(none);
-        self.tally.answered(&state, answer.err().unwrap_or(0));
+        let state = answer.unwrap_or_default();
+        self.tally.answered(&state, &[], answer.err().unwrap_or(0));
         let paper = Paper::start(kernel, setting, phase);
         paper.iter().try_for_each(|paper| judge::state(paper, &state))?;
         Ok(List { state, paper })
@@ -143,7 +147,7 @@ impl Group {
     fn retune(&mut self, list: &mut List, setting: Setting) -> Result<(), String> {
         let answer = state::retune(list.state, setting);
         list.state = answer.unwrap_or(list.state);
-        self.tally.answered(&list.state, answer.err().unwrap_or(0));
+        self.tally.answered(&list.state, &[], answer.err().unwrap_or(0));
         match &mut list.paper {
             Some(paper) => judge::retune(paper, setting, &list.state),
             None => Ok(()),
@@ -163,7 +167,8 @@ impl Group {
         let answer = state::feed(list.state, input, &mut buffer[..space]);
         let fed = answer.unwrap_or(none);
         list.state = fed.state;
-        self.tally.fed(&fed, answer.err().unwrap_or(0), buffer);
+        self.tally.answered(&list.state, &[], answer.err().unwrap_or(0));
+        self.tally.fed(&fed, &[fed.clips], buffer);
         if let Some(paper) = &mut list.paper {
             // "No feed in such a list is refused."
             answer.map_err(|refusal| format!("a feed is refused with {refusal}"))?;

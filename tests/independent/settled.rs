@@ -1,10 +1,11 @@
-//! The settled examples of document 01, starred or not, and the printed examples of the program,
-//! run on the implementation before every command.
+//! The settled examples of document 01, starred or not, the printed examples of the program, and
+//! what request U1 settles, run on the implementation before every command.
 
 use crate::host;
 use crate::image;
 use crate::judge;
 use crate::kernels;
+use crate::lane_image;
 use crate::oscillator;
 use crate::paper::Paper;
 use crate::program;
@@ -24,6 +25,7 @@ pub fn run() -> Result<usize, String> {
     examples.extend(words());
     examples.extend(empty_buffers());
     examples.extend(programs());
+    examples.extend(lanes());
     examples.extend(facts());
     match examples.iter().find(|(_, holds)| !holds) {
         Some((name, _)) => Err(format!("settled example does not hold: {name}")),
@@ -42,7 +44,7 @@ fn outputs(kernel: u8, word: u64, phase: u32, samples: &[i16]) -> Vec<i16> {
     let mut places = [7; 32];
     let fed = state::feed(fresh, samples, &mut places).unwrap();
     assert!(places[fed.written..].iter().all(|&place| place == 7));
-    let start = host::start(vec![0xee; image::LENGTH], kernel as u32, setting, phase);
+    let start = host::start("start", vec![0xee; image::LENGTH], kernel as u32, setting, phase);
     let image = host::answer(&start).buffers.remove(0);
     let feed = host::feed(image, host::bytes(samples), host::bytes(&[7; 32]));
     assert_eq!(host::answer(&feed).buffers[2], host::bytes(&places));
@@ -140,6 +142,37 @@ fn empty_buffers() -> Vec<Example> {
     vec![
         ("empty input and output, none needed: FULL", end(0) == (0, 0, End::Full)),
         ("empty input and output, some needed: HUNGRY", hungry),
+    ]
+}
+
+/// Request U1, on the image of fresh lanes.
+fn lanes() -> Vec<Example> {
+    let start = |length| host::start("start_lanes", vec![0; length], 0, Setting::Word(HALF), 0);
+    let fresh = host::answer(&start(lane_image::LENGTH));
+    let image = |kernel: u8| {
+        let mut image = fresh.buffers[0].clone();
+        image[image::KERNEL] = kernel;
+        image
+    };
+    let feed = |kernel, count, input: &[i16], places| {
+        host::answer(&host::feed_lanes(image(kernel), count, host::bytes(input), vec![0; places]))
+    };
+    let refused = |kernel, count, input: &[i16], places| feed(kernel, count, input, places).result;
+    let fed = feed(0, 2, &[0, 100, 40, 0, -1, 0], 16);
+    let outputs = host::bytes(&[0, 50, 100, 70, 0, 0, -1, 0]);
+    vec![
+        ("the image of lanes has 224 bytes", fresh.result == 0 && lane_image::LENGTH == 224),
+        (
+            "a start of lanes with the image of one: refusal 5",
+            host::answer(&start(image::LENGTH)).result == 5,
+        ),
+        ("lanes one after another in the buffers", fed.result == 0 && fed.buffers[2] == outputs),
+        ("two lanes and 6 bytes: refusal 13", refused(0, 2, &[1, 2, 3], 8) == 13),
+        ("two lanes and 6 bytes of output: refusal 13", refused(0, 2, &[1, 2], 6) == 13),
+        ("lane counts 0 and 17: refusal 13", [0, 17].map(|n| refused(0, n, &[], 0)) == [13, 13]),
+        ("lane count 16 and empty buffers", refused(0, 16, &[], 0) == 0),
+        ("12 before 13", refused(0, 17, &[], 1) == 12),
+        ("5 before 12 and 13", refused(4, 17, &[], 1) == 5),
     ]
 }
 

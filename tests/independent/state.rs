@@ -6,7 +6,7 @@ use crate::settings::{self, Setting, LARGEST_WORD};
 
 /// "The state carries kernel, word, register, the newest four samples (oldest first, zeros at the
 /// start) and the number of samples still needed before the next output (0 to 4)."
-#[derive(Clone, Copy, Debug, PartialEq, Eq)]
+#[derive(Clone, Copy, Debug, Default, PartialEq, Eq)]
 pub struct State {
     pub kernel: u8,
     pub needed: u8,
@@ -22,7 +22,7 @@ pub enum End {
 }
 
 /// "It returns state, samples taken, outputs written, clips among them, and FULL or HUNGRY."
-#[derive(Clone, Copy, Debug)]
+#[derive(Clone, Copy, Debug, PartialEq, Eq)]
 pub struct Fed {
     pub state: State,
     pub taken: usize,

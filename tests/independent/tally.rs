@@ -1,6 +1,6 @@
 //! What was compared, and the tables that say so.
 
-use crate::host::{Answer, Call, ROWS};
+use crate::host::{Answer, Call, Row, ROWS};
 use crate::kernels;
 use crate::paper::Distance;
 use crate::settings::LARGEST_WORD;
@@ -21,6 +21,9 @@ const COUNTED: [&str; 8] = [
 
 #[derive(Default)]
 pub struct Tally {
+    /// What the calls are called, and their rows of the table.
+    title: &'static str,
+    rows: Vec<&'static Row>,
     pub chains: u64,
     /// By the call's name and its answer.
     calls: BTreeMap<(&'static str, u32), u64>,
@@ -33,6 +36,11 @@ pub struct Tally {
 }
 
 impl Tally {
+    /// Of calls of the rows that are kept.
+    pub fn over(title: &'static str, kept: fn(&&Row) -> bool) -> Tally {
+        Tally { title, rows: ROWS.iter().filter(kept).collect(), ..Tally::default() }
+    }
+
     pub fn count(&mut self, call: &Call, answer: &Answer) {
         *self.calls.entry((call.row.name, answer.result)).or_default() += 1;
     }
@@ -63,19 +71,20 @@ impl Tally {
         nearest.may_be = nearest.may_be.min(may_be - is);
     }
 
-    pub fn outputs(&self) -> u64 {
-        self.outputs
+    /// Whether there are at least so many.
+    pub fn reached(&self, calls: u64, outputs: u64) -> bool {
+        self.total_calls() >= calls && self.outputs >= outputs
     }
 
-    pub fn total_calls(&self) -> u64 {
+    fn total_calls(&self) -> u64 {
         self.calls.values().sum()
     }
 
     pub fn print(&self) {
-        println!("{} calls in {} chains, by answer:", self.total_calls(), self.chains);
+        println!("{} {} in {} chains, by answer:", self.total_calls(), self.title, self.chains);
         let answers = self.calls.keys().map(|(_, answer)| *answer).collect::<BTreeSet<u32>>();
         print_row("call", &answers);
-        for row in ROWS {
+        for row in &self.rows {
             let counts = answers.iter().map(|answer| self.calls.get(&(row.name, *answer)));
             print_row(row.name, counts.map(|count| count.unwrap_or(&0)));
         }
@@ -100,7 +109,7 @@ impl Tally {
     /// A comparison that misses an answer of a call, or something that is counted of a kernel, says
     /// nothing. The linear kernel never clips: its value lies between its samples.
     pub fn complete(&self) -> Result<(), String> {
-        for row in ROWS {
+        for row in &self.rows {
             let met = |answer: &&u32| self.calls.contains_key(&(row.name, **answer));
             if let Some(answer) = row.answers.iter().find(|answer| !met(answer)) {
                 return Err(format!("no {} was answered with {answer}: compare more", row.name));
@@ -111,11 +120,13 @@ impl Tally {
                 return Err(format!("kernel {kernel}, {what}: not as it has to be; compare more"));
             }
         }
+        let (calls, title, outputs) = (self.total_calls(), self.title, self.outputs);
+        println!("{calls} {title} agree, with {outputs} outputs; 0 differ");
         Ok(())
     }
 }
 
 fn print_row(name: &str, cells: impl IntoIterator<Item = impl std::fmt::Display>) {
     let cells = cells.into_iter().map(|cell| format!("{cell:>17}"));
-    println!("{name:<13}{}", cells.collect::<String>());
+    println!("{name:<18}{}", cells.collect::<String>());
 }

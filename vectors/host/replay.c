@@ -30,6 +30,10 @@
 #define MOST 6          /* numbers of a call, and buffers */
 #define NAMES 24        /* names of buffers in the table */
 
+#define IMAGE 40                  /* bytes of an image */
+#define CLIPS (IMAGE + 15 * 8)    /* where the clip counts of an image of lanes begin */
+#define OF_LANES (CLIPS + 16 * 4) /* bytes of an image of lanes, which begins with an image */
+
 static const char usage[] =
     "usage: replay [OPTION...] FILE...\n"
     "Makes the calls in the files and compares the answers. The exit status is 0 only if a call\n"
@@ -65,6 +69,7 @@ struct row {
 };
 
 #define B(i) b[i]->at, b[i]->length
+#define FRONT(i) b[i]->at, b[i]->length < IMAGE ? b[i]->length : IMAGE
 #define CALL(name, numbers, buffers, call)                                             \
     static uint32_t make_##name(struct buffer **b, const uint64_t *n, const double *f) \
     {                                                                                  \
@@ -86,9 +91,10 @@ _Static_assert(sizeof rows > sizeof *rows,
 /* A start or a retune that is not made and that the header need not declare. */
 static const struct row undeclared = {"", NULL, "image*", NULL};
 
-/* The fields of a buffer, by its name and length. Numbers have the low byte first. A buffer whose
-   name is not here is told in samples if its length is even. All others are told in bytes. A field
-   that is shown stands beside the name of a call without numbers, as it was lent. */
+/* The fields of a buffer, by its name and length; an image of lanes has those of an image too.
+   Numbers have the low byte first. A buffer whose name is not here is told in samples if its length
+   is even. All others are told in bytes. A field that is shown stands beside the name of a call
+   that is lent several buffers, as it was lent. */
 struct field {
     const char *buffer;
     size_t length;
@@ -97,12 +103,19 @@ struct field {
     int is_signed, shown;
 };
 
+#define LANE(i)                                                                 \
+    {"image", OF_LANES, "lane " #i " window", IMAGE + 8 * (i - 1), 2, 4, 1, 0}, \
+        {"image", OF_LANES, "lane " #i " clips", CLIPS + 4 * i, 4, 1, 0, 0}
+
 static const struct field fields[] = {
-    {"image", 40, "kernel", 0, 1, 1, 0, 1}, {"image", 40, "needed", 1, 1, 1, 0, 0},
-    {"image", 40, "zeros", 2, 2, 1, 0, 0},  {"image", 40, "register", 4, 4, 1, 0, 0},
-    {"image", 40, "word", 8, 8, 1, 0, 1},   {"image", 40, "window", 16, 2, 4, 1, 0},
-    {"image", 40, "taken", 24, 4, 1, 0, 0}, {"image", 40, "written", 28, 4, 1, 0, 0},
-    {"image", 40, "clips", 32, 4, 1, 0, 0}, {"image", 40, "end", 36, 4, 1, 0, 0}};
+    {"image", IMAGE, "kernel", 0, 1, 1, 0, 1}, {"image", IMAGE, "needed", 1, 1, 1, 0, 0},
+    {"image", IMAGE, "zeros", 2, 2, 1, 0, 0},  {"image", IMAGE, "register", 4, 4, 1, 0, 0},
+    {"image", IMAGE, "word", 8, 8, 1, 0, 1},   {"image", IMAGE, "window", 16, 2, 4, 1, 0},
+    {"image", IMAGE, "taken", 24, 4, 1, 0, 0}, {"image", IMAGE, "written", 28, 4, 1, 0, 0},
+    {"image", IMAGE, "clips", 32, 4, 1, 0, 0}, {"image", IMAGE, "end", 36, 4, 1, 0, 0},
+    {"image", OF_LANES, "lane 0 clips", CLIPS, 4, 1, 0, 0},
+    LANE(1), LANE(2), LANE(3), LANE(4), LANE(5), LANE(6), LANE(7), LANE(8), LANE(9), LANE(10),
+    LANE(11), LANE(12), LANE(13), LANE(14), LANE(15)};
 
 /* ---- where the driver stands ---- */
 
@@ -501,6 +514,11 @@ static int tell_guard(const struct buffer *buffer)
     return i < 2 * GUARD;
 }
 
+static int has_length(const struct field *field, size_t length)
+{
+    return field->length == length || (field->length == IMAGE && length == OF_LANES);
+}
+
 /* The field that has a place in a buffer; where no layout says, a sample or a byte. */
 static struct field field_at(const struct buffer *buffer, size_t at)
 {
@@ -509,7 +527,7 @@ static struct field field_at(const struct buffer *buffer, size_t at)
     for (; field < fields + sizeof fields / sizeof *fields; field++) {
         if (strcmp(field->buffer, buffer->name) != 0)
             continue;
-        if (field->length == buffer->length && at - field->place < field->bytes * field->count)
+        if (has_length(field, buffer->length) && at - field->place < field->bytes * field->count)
             return *field;
         other.bytes = 1;
     }
@@ -548,14 +566,14 @@ static void add(char *text, size_t size, const char *format, ...)
     va_end(list);
 }
 
-/* Writes what a call is told by. If it has numbers, they say more than what it is lent. */
+/* Writes what a call is told by. If it is lent an image only, its numbers say more than that. */
 static void write_about(void)
 {
     struct field field;
     size_t at, k;
     int i, shown = 0;
     sprintf(call.about, "%.40s", call.row->name);
-    for (i = 0; i < call.count && call.row->numbers[0] == 0; i++)
+    for (i = 0; i < call.count && call.count > 1; i++)
         for (at = 0; at < call.buffers[i]->length; at += field.bytes) {
             uint64_t bits = 0;
             field = field_at(call.buffers[i], at);

@@ -1,11 +1,11 @@
 -- Laws of buffers whose front is overwritten: what stands there then, which places keep their contents, that the length stays, what is written over the rest, and byte pairs that are written over others. Assumes nothing.
-use mathlib.Core.Path.{_≡_, ap, _∙_}
+use mathlib.Core.Path.{_≡_, sym, ap, _∙_}
 use mathlib.Core.List.{List, _++_, append-assoc}
-use Prim.Native.Nat.{ℕ, _≤_}
+use Prim.Native.Nat.{ℕ, _+_, _-_, _≤_}
 use native.Mathlib.Omega.{arith}
 use lib.IntN.{ℤ}
 use lib.ListN.{length, take, drop, length-append, length-drop}
-use lib.Seq.{take-append-seam, drop-append-seam, drop-drop}
+use lib.Seq.{take-append-seam, drop-append-seam, drop-append-add, drop-drop}
 use Rattle.bytes_spec.specs.Bytes.{samplesOf, pairsOf}
 use Rattle.bytes_spec.specs.Overwritten.{over}
 use Rattle.bytes_spec.proofs.Samples.{AreSamples, samples-append, samples-back, pairs-long, samples-pairs}
@@ -16,6 +16,12 @@ module _ {A : Type 0} (ys old : List A) where
 
   pub over-past : drop (length ys) (over ys old) ≡ drop (length ys) old
   over-past = drop-append-seam ys _
+
+  -- any place behind what is written
+  pub over-behind : (n : ℕ) → length ys ≤ n → drop n (over ys old) ≡ drop n old
+  over-behind n h =
+      let e : length ys + (n - length ys) ≡ n = omega arith in
+      ap (λ k. drop k (over ys old)) (sym e) ∙ drop-append-add ys (drop (length ys) old) (n - length ys) ∙ drop-drop (n - length ys) (length ys) old ∙ ap (λ k. drop k old) e
 
   pub over-long : length ys ≤ length old → length (over ys old) ≡ length old
   over-long h = omega (arith, length-append ys (drop (length ys) old), length-drop (length ys) old)

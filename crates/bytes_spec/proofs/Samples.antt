@@ -95,6 +95,21 @@ unfolding Bytes bytesOf flatMap
 pairs-are [] = tt
 pairs-are (x ∷ xs) = (omega arith, (omega arith, pairs-are xs))
 
+pairs-front : (xs : List ℤ) (n : ℕ) → take (n * 2) (pairsOf xs) ≡ pairsOf (take n xs)
+unfolding bytesOf flatMap
+pairs-front xs zero = refl
+pairs-front [] (suc n) = rw two-more
+pairs-front (x ∷ xs) (suc n) = rw (two-more, pairs-front xs n)
+
+pairs-back : (xs : List ℤ) (n : ℕ) → drop (n * 2) (pairsOf xs) ≡ pairsOf (drop n xs)
+unfolding bytesOf flatMap
+pairs-back xs zero = refl
+pairs-back [] (suc n) = rw two-more
+pairs-back (x ∷ xs) (suc n) = rw two-more (pairs-back xs n)
+
+pub pairs-part : (xs : List ℤ) (a n : ℕ) → take (n * 2) (drop (a * 2) (pairsOf xs)) ≡ pairsOf (take n (drop a xs))
+pairs-part xs a n = rw (pairs-back, pairs-front)
+
 -- ---- each undoes the other
 pub samples-pairs : (xs : List ℤ) → AreSamples xs → samplesOf (pairsOf xs) ≡ xs
 unfolding samplesOf AreSamples bytesOf flatMap

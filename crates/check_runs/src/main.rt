@@ -1,8 +1,9 @@
 // Runs lists of calls that a generator draws, from starts and from states that no run reaches, and prints a line for each group of lists: how many calls, a hash of every
 // state, count, end, refusal and output place in order, and totals. The file `stdout` holds what an independent model of document 01 prints. Each function is proved free of
 // overflow and of access out of bounds.
+mod lane_lists;
+
 ghost use Prim.Native.Nat.{_≤_, _<_};
-use converter_spec::Counts;
 use converter_spec::End;
 use converter_spec::Fed;
 use converter_state::State;
@@ -222,14 +223,14 @@ fn mix_samples(hash: u64, samples: &[i16]) -> u64 {
     mixed
 }
 
-fn mix_state(hash: u64, state: State) -> u64 {
+// The state's numbers, and the samples of its window, or of lanes those of all windows.
+fn mix_state(hash: u64, state: State, windows: &[i16]) -> u64 {
     let mut mixed = mix(hash, state.kernel as u64);
     mixed = mix(mixed, state.needed as u64);
     mixed = mix(mixed, state.register as u64);
     mixed = mix(mixed, state.word % 0x1_0000_0000);
     mixed = mix(mixed, state.word / 0x1_0000_0000);
-    let window = state.window;
-    mix_samples(mixed, &window)
+    mix_samples(mixed, windows)
 }
 
 // No total comes near 2^47, so the remainders change nothing.
@@ -241,9 +242,9 @@ fn flag(refusal: u8) -> u64 {
     if refusal == 0 { 0 } else { 1 }
 }
 
-// The tally with a call that returned the state and the refusal.
-fn answered(tally: Tally, state: State, refusal: u8) -> Tally {
-    let hash = mix(mix_state(tally.hash, state), refusal as u64);
+// The tally with a call that returned the state, with its window or those of all lanes, and the refusal.
+fn answered(tally: Tally, state: State, windows: &[i16], refusal: u8) -> Tally {
+    let hash = mix(mix_state(tally.hash, state, windows), refusal as u64);
     let calls = sum(tally.calls, 1);
     let refused = sum(tally.refused, flag(refusal));
     Tally {
@@ -262,26 +263,47 @@ fn end_of(end: End) -> u64 {
     }
 }
 
+// The tally with counts of clips.
+fn clipped(tally: Tally, clips: &[usize]) -> Tally {
+    let mut after = tally;
+    let mut i = 0;
+    while i < clips.len() {
+        let n = clips[i] as u64;
+        let hash = mix(after.hash, n);
+        let all = sum(after.clips, n);
+        after = Tally {
+            hash: hash,
+            clips: all,
+            ..after
+        };
+        i += 1;
+    }
+    after
+}
+
 // The tally with a feed's counts and end, and the whole buffer that its output places are the first of.
-fn counted(tally: Tally, counts: Counts, buffer: &[i16]) -> Tally {
-    let taken = counts.taken as u64;
-    let written = counts.written as u64;
-    let clips = kernels::total_clips(counts.clips) as u64;
-    let end = counts.end;
-    let mut hash = mix(tally.hash, taken);
-    hash = mix(hash, written);
-    hash = mix(hash, clips);
-    hash = mix(hash, end_of(end));
-    hash = mix_samples(hash, buffer);
-    let all_taken = sum(tally.taken, taken);
-    let all_written = sum(tally.written, written);
-    let all_clips = sum(tally.clips, clips);
-    Tally {
+fn counted(
+    tally: Tally,
+    taken: usize,
+    written: usize,
+    clips: &[usize],
+    end: End,
+    buffer: &[i16],
+) -> Tally {
+    let hash = mix(mix(tally.hash, taken as u64), written as u64);
+    let all_taken = sum(tally.taken, taken as u64);
+    let all_written = sum(tally.written, written as u64);
+    let fed = Tally {
         hash: hash,
         taken: all_taken,
         written: all_written,
-        clips: all_clips,
         ..tally
+    };
+    let after = clipped(fed, clips);
+    let whole = mix_samples(mix(after.hash, end_of(end)), buffer);
+    Tally {
+        hash: whole,
+        ..after
     }
 }
 
@@ -290,7 +312,8 @@ fn retuned(seed: &mut u64, run: Run) -> Run {
     let state = run.state;
     let answer = state.retune(drawn);
     let after = answer.state;
-    let tally = answered(run.tally, after, answer.refusal);
+    let window = after.window;
+    let tally = answered(run.tally, after, &window, answer.refusal);
     Run {
         state: after,
         tally: tally,
@@ -346,9 +369,12 @@ fn fed(seed: &mut u64, run: Run) -> Run {
     fill(seed, &mut output);
     let answer = feed_part(run.state, &input, samples, &mut output, space);
     let after = answer.state;
+    let window = after.window;
+    let tally = answered(run.tally, after, &window, answer.refusal);
     let counts = answer.counts;
-    let tally = answered(run.tally, after, answer.refusal);
-    let whole = counted(tally, counts, &output);
+    let clips = [kernels::total_clips(counts.clips)];
+    let end = counts.end;
+    let whole = counted(tally, counts.taken, counts.written, &clips, end, &output);
     Run {
         state: after,
         tally: whole,
@@ -361,21 +387,20 @@ fn started(seed: &mut u64, kernel: u8, tally: Tally) -> Run {
     let position = phase(seed);
     let answer = converter_state::start(kernel, drawn, position);
     let state = answer.state;
-    let counts = answered(tally, state, answer.refusal);
+    let window = state.window;
+    let counts = answered(tally, state, &window, answer.refusal);
     Run {
         state: state,
         tally: counts,
     }
 }
 
-// A run from a start with any kernel number, every second one or so a kernel's.
-fn any_started(seed: &mut u64, tally: Tally) -> Run {
+// Any kernel number, every second one or so a kernel's.
+fn any_kernel(seed: &mut u64) -> u8 {
     if draw(seed, 2) == 0 {
-        let number = draw(seed, 256) as u8;
-        return started(seed, number, tally);
+        return draw(seed, 256) as u8;
     }
-    let kernel = draw(seed, 4) as u8;
-    started(seed, kernel, tally)
+    draw(seed, 4) as u8
 }
 
 // A run from a state of the program's own.
@@ -391,7 +416,10 @@ fn handed_over(seed: &mut u64, tally: Tally) -> Run {
 fn begun(seed: &mut u64, group: u8, tally: Tally) -> Run {
     match group {
         0..=3 => started(seed, group, tally),
-        4 => any_started(seed, tally),
+        4 => {
+            let kernel = any_kernel(seed);
+            started(seed, kernel, tally)
+        }
         _ => handed_over(seed, tally),
     }
 }
@@ -417,6 +445,9 @@ fn called_in(seed: &mut u64, group: u8, run: Run) -> Run {
 
 // The tally with the calls of the next list of a group.
 fn list(seed: &mut u64, group: u8, tally: Tally) -> Tally {
+    if group == 6 {
+        return lane_lists::list(seed, tally);
+    }
     let mut run = begun(seed, group, tally);
     let mut i: u64 = 0;
     while i < 12 {
@@ -466,4 +497,5 @@ fn main() {
     show(b"kernel 3: ", lists(3));
     show(b"any kernel: ", lists(4));
     show(b"states handed in: ", lists(5));
+    show(b"lanes: ", lists(6));
 }

@@ -16,10 +16,10 @@ use Rattle.converter_spec.specs.declared.feeding.Fed.{Fed}
 use Rattle.converter_state.specs.Start.{isState}
 use Rattle.converter_spec.specs.declared.feeding.Counts.{Counts}
 use Rattle.bytes_spec.specs.Overwritten.{over}
-use Rattle.converter_spec.specs.Feeding.{HUNGRY, FULL, counts, noCounts, addCounts, Ran, ran, rule, accepted, refusedFeed, fedOf, outputsOf, FedRight}
+use Rattle.converter_spec.specs.Feeding.{HUNGRY, FULL, counts, noCounts, addCounts, Ran, ran, rule, accepted, fedOf, outputsOf, FedRight}
 use Rattle.converter_state.proofs.States.{Sound, state-is}
 use Rattle.converter_spec.proofs.RuleSteps.{rule-full, rule-hungry, by-need}
-use Rattle.converter_spec.proofs.Runs.{rule-ending, ending-sizes, rule-written, rule-sound, rule-more, then, nothing-then}
+use Rattle.converter_spec.proofs.Runs.{rule-ending, ending-sizes, rule-written, rule-sound, rule-window, rule-more, then, nothing-then}
 use Rattle.converter_spec.proofs.Counts.{add-none, add-counts-assoc}
 
 -- ---- by the state: accepted or refused
@@ -41,6 +41,14 @@ sizes-by s xs n false e = let f = fed-refused s e xs n in rw (f .0, f .1) (refl,
 pub fed-sizes : (s : State) (xs : List ℤ) (n : ℕ)
     → (fedOf s xs n .counts .written ≡ length (outputsOf s xs n)) × (fedOf s xs n .counts .taken ≤ length xs) × (length (outputsOf s xs n) ≤ n)
 fed-sizes s xs n = sizes-by s xs n (isState s) refl
+
+-- ---- a window of four samples stays one
+window-by : (s : State) (xs : List ℤ) (n : ℕ) → length (s .window) ≡ 4 → (b : Bool) → isState s ≡ b → length (fedOf s xs n .state .window) ≡ 4
+window-by s xs n h true e = rw (fed-rule s e xs n .0) (rule-window xs n s h)
+window-by s xs n h false e = rw (fed-refused s e xs n .0) h
+
+pub fed-window : (s : State) (xs : List ℤ) (n : ℕ) → length (s .window) ≡ 4 → length (fedOf s xs n .state .window) ≡ 4
+fed-window s xs n h = window-by s xs n h (isState s) refl
 
 -- ---- the output buffer: its length stays, and so do the places past those written
 module _ {s : State} {input old : List ℤ} {f : Fed} {left : List ℤ} (h : FedRight s input old f left) where

@@ -1,4 +1,5 @@
--- Demand 3 of a list of one feed, in numbers that a user can check. All of it is read off `third`, so that a statement which says less is refused here. Assumes nothing.
+-- Demand 3 of a list of one feed, in numbers that a user can check. All of it is read off `third`, so that a statement which says less is refused here; what agrees otherwise, as a lane's
+-- feed, is read in the same numbers. Assumes nothing.
 use mathlib.Core.Path.{_≡_, refl, sym, ap, subst, _∙_}
 use mathlib.Core.Bool.{Bool, true, false}
 use mathlib.Core.List.{List, [], _∷_, _++_, append-nil}
@@ -24,7 +25,7 @@ use Rattle.converter_state.specs.Start.{lastRead, started}
 use Rattle.converter_spec.specs.declared.feeding.End.{End}
 use Rattle.converter_spec.specs.declared.feeding.End.the-variants as end
 use Rattle.converter_spec.specs.Feeding.{HUNGRY, FULL, endNumber, FedRight}
-use Rattle.converter_spec.specs.Paper.{Compared, fed, tuned, Paper, paperOf, Did, wordIn, ahead, positionAt, first, BeforeFirst, count, outputsOver, joins, counted, feeds, does, run, afterwards, positions}
+use Rattle.converter_spec.specs.Paper.{Compared, fed, tuned, Paper, paperOf, Did, wordIn, begin, ahead, positionAt, first, BeforeFirst, count, outputsOver, joins, counted, feeds, does, run, afterwards, positions}
 use Rattle.converter_spec.specs.Demand.{Call, feed, Seen, outputs, clipsAt, EachEnds, Agreement, Agrees}
 use Rattle.converter_spec.proofs.Count.{ahead-sum, first-length, first-at, map-at, before-only, count-first, standing, outputs-first}
 use Rattle.converter_spec.proofs.Third.{third}
@@ -72,9 +73,14 @@ refusalIn (tuned r) = r
 abbrev paperAt : ℕ → ℕ → ℕ → Paper
 paperAt k w q = paperOf k (oscillator q w) [] 0
 
--- ---- one feed from an accepted start
-module _ (k : ℕ) (a : Setting) (P w : ℕ) (l : P < 2 ^ 32) (ew : wordOf a ≡ word w) {s : Started} (e : s ≡ started k a P) (z : s .refusal ≡ 0)
-    {input old : List ℤ} {f : Fed} {left : List ℤ} (h : FedRight (s .state) input old f left) where
+-- ---- one feed from an accepted start agrees
+pub one-agrees : (k : ℕ) (a : Setting) (P : ℕ) → P < 2 ^ 32 → (s : Started) → s ≡ started k a P → s .refusal ≡ 0
+    → {input old : List ℤ} {f : Fed} {left : List ℤ} → FedRight (s .state) input old f left → Agrees (begin k a P) (feed input old f left ∷ [])
+unfolding Seen
+one-agrees k a P l s e z {input} {old} {f} {left} h = third k a P l s e z (feed input old f left ∷ []) (h, tt)
+
+-- ---- and so, in numbers, what is said of one feed that agrees
+module _ (k : ℕ) (a : Setting) (P w : ℕ) (ew : wordOf a ≡ word w) {input old : List ℤ} {f : Fed} {left : List ℤ} (h : Agrees (begin k a P) (feed input old f left ∷ [])) where
   abbrev calls : List Call
   calls = feed input old f left ∷ []
 
@@ -83,10 +89,10 @@ module _ (k : ℕ) (a : Setting) (P w : ℕ) (l : P < 2 ^ 32) (ew : wordOf a ≡
   did = joins (paperAt k w P) input (f .counts .taken) (f .counts .written) (f .counts .end)
 
   agreement : Agreement (kernelOf k) calls (did ∷ []) (did .paper) (first (oscillator P w) (f .counts .written))
-  unfolding Seen run does afterwards positions
+  unfolding run does afterwards positions
   agreement =
       let d : Did = feeds (paperAt k w P) input (length old) in
-      let g : Agreement (kernelOf k) calls (d ∷ []) (d .paper) (d .positions ++ []) = subst (λ o. Agrees (paperAt k (wordIn o) P) calls) ew (third k a P l s e z calls (h, tt)) in
+      let g : Agreement (kernelOf k) calls (d ∷ []) (d .paper) (d .positions ++ []) = subst (λ o. Agrees (paperAt k (wordIn o) P) calls) ew h in
       let is : d ≡ did
       = feeds-by (paperAt k w P) input (length old)
       ∙ ap (λ cs. byCompared (paperAt k w P) input (getD cs 0 (tuned 0))) (sym (g .same))

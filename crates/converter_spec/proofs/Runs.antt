@@ -5,7 +5,7 @@ use mathlib.Core.List.{List, [], _∷_, _++_}
 use Prim.Native.Nat.{ℕ, suc, _+_, _-_, _^_, _≤_, _<_}
 use native.Mathlib.Omega.{arith}
 use lib.IntN.{ℤ}
-use lib.ListN.{length, drop}
+use lib.ListN.{length, drop, length-append, length-drop}
 use Rattle.oscillator_spec.specs.Register.{stepped, advanceOf}
 use Rattle.oscillator_spec.proofs.Positions.{stepped-below}
 use Rattle.kernels_spec.specs.Kernel.{kernelOf}
@@ -66,6 +66,16 @@ rule-sound =
     (λ xs n s r e f h l. f (sound-advanced s l h) (stepped-below (s .register) (s .word)))
     (λ n k s e h l. (h, l))
     (λ x xs n k s r e f h l. f (sound-taking s x h) l)
+
+-- ---- a window of four samples stays one
+pub rule-window : (xs : List ℤ) (n : ℕ) (s : State) → length (s .window) ≡ 4 → length (rule xs n s .state .window) ≡ 4
+unfolding advanced taking
+rule-window =
+    rule-ind (λ xs n s r. length (s .window) ≡ 4 → length (r .state .window) ≡ 4)
+    (λ xs s e h. h)
+    (λ xs n s r e f h. f h)
+    (λ n k s e h. h)
+    (λ x xs n k s r e f h. f (omega (arith, h, length-append (drop 1 (s .window)) (x ∷ []), length-drop 1 (s .window))))
 
 -- ---- the run r, and then the run from where it stopped
 abbrev pub then : Ran → Ran → Ran

@@ -36,13 +36,18 @@ module _ (input old : List ℕ) {after : List ℕ} {s : State} {f : Fed} (good :
       let k = rule-clips (samplesOf input) (length old / 2) s in
       (omega (arith, z), omega (arith, z), omega (arith, z))
 
-  -- the image that is written, and the output buffer
+  -- its answer, and the output buffer
+  pub fed-answer : f ≡ fedOf s (samplesOf input) (length old / 2)
+  fed-answer = h .answer ∙ sym (fed-rule s good (samplesOf input) (length old / 2) .0)
+
+  pub fed-buffer : after ≡ over (pairsOf (outputsOf s (samplesOf input) (length old / 2))) old
+  fed-buffer = h .buffer ∙ ap (λ (ys : List ℤ). over (pairsOf ys) old) (sym (fed-rule s good (samplesOf input) (length old / 2) .1))
+
+  -- where s is an image's state, the image that is written, and the buffer
   pub fed-image : (image : List ℕ) → s ≡ stateIn image → imageOf (savedBy f) ≡ imageFed image input old
   unfolding imageFed
-  fed-image image e = ap (λ (a : Fed). imageOf (savedBy a)) (h .answer ∙ sym (fed-rule s good (samplesOf input) (length old / 2) .0)) ∙ ap (λ (s : State). imageOf (savedBy (fedOf s (samplesOf input) (length old / 2)))) e
+  fed-image image e = ap (λ (a : Fed). imageOf (savedBy a)) fed-answer ∙ ap (λ (s : State). imageOf (savedBy (fedOf s (samplesOf input) (length old / 2)))) e
 
   pub fed-output : (image : List ℕ) → s ≡ stateIn image → after ≡ outputFed image input old
   unfolding outputFed
-  fed-output image e =
-      h .buffer ∙ ap (λ (ys : List ℤ). over (pairsOf ys) old) (sym (fed-rule s good (samplesOf input) (length old / 2) .1))
-      ∙ ap (λ (s : State). over (pairsOf (outputsOf s (samplesOf input) (length old / 2))) old) e
+  fed-output image e = fed-buffer ∙ ap (λ (s : State). over (pairsOf (outputsOf s (samplesOf input) (length old / 2))) old) e

@@ -4,14 +4,14 @@ use mathlib.Core.List.{List, _∷_, _++_, append-assoc, flatMap}
 use Prim.Native.Nat.{ℕ, suc, _+_, _/_, _≤_}
 use native.Mathlib.Omega.{arith}
 use lib.IntN.{ℤ, pos}
-use lib.ListN.{length, take, drop, getD}
-use lib.Seq.{take-all, drop-cons}
+use lib.ListN.{length, take, drop, getD, length-append}
+use lib.Seq.{take-all, take-at, drop-cons, length-take-le}
 use Rattle.bytes_spec.specs.Bytes.{bytesOf, samplesOf, pairOf, pairsOf}
 use Rattle.bytes_spec.proofs.Samples.{samples-long, samples-part}
-use Rattle.host_spec.specs.Image.{windowPlace, imageLength, windowBytes}
+use Rattle.host_spec.specs.Image.{windowPlace, countsPlace, imageLength, windowBytes}
 use Rattle.pass_spec.specs.Pass.{windowFrom}
 
-window-part : (xs : List ℤ) (b : ℕ) → b + 4 ≤ length xs → windowFrom xs b ≡ take 4 (drop b xs)
+pub window-part : (xs : List ℤ) (b : ℕ) → b + 4 ≤ length xs → windowFrom xs b ≡ take 4 (drop b xs)
 window-part xs b h =
     let step : (i j : ℕ) → suc i ≡ j → j ≤ length xs → drop i xs ≡ getD xs i (pos 0) ∷ drop j xs = λ i j e l. rw (← e) (drop-cons xs i (pos 0) (omega arith)) in
     rw (
@@ -32,3 +32,9 @@ window-pairs w h = ap pairsOf (sym (window-part w 0 (omega arith) ∙ take-all 4
 -- ---- four parts that are written one behind the other
 pub behind : (t a b c d : List ℕ) → t ++ a ++ b ++ c ++ d ≡ t ++ (a ++ (b ++ (c ++ d)))
 behind t a b c d = simp append-assoc
+
+-- the bytes up to the counts, where a window is written behind those before it
+pub placed : (l w r : List ℕ) → length l ≡ imageLength → length w ≡ 8 → take countsPlace (take windowPlace l ++ (w ++ r)) ≡ take windowPlace l ++ w
+placed l w r h e =
+    ap (take countsPlace) (sym (append-assoc (take windowPlace l) w r))
+    ∙ take-at (take windowPlace l ++ w) r countsPlace (omega (arith, length-append (take windowPlace l) w, length-take-le windowPlace l (omega (arith, h)), e))

@@ -1,3 +1,3 @@
-mod Pairs
-mod ImageParts
-mod FedBytes
+pub mod Pairs
+pub mod ImageParts
+pub mod FedBytes

@@ -1,5 +1,5 @@
 -- Samples that lie in a buffer as byte pairs: how one is stored, and what is read of a window and the first samples. Assumes nothing.
-use mathlib.Core.Path.{_≡_, refl, _∙_}
+use mathlib.Core.Path.{_≡_, refl, ap, _∙_}
 use mathlib.Core.List.{List, [], _∷_, _++_}
 use Prim.Native.Nat.{ℕ, _+_, _*_, _<_}
 use native.Mathlib.Omega.{arith}
@@ -7,6 +7,7 @@ use lib.IntN.{ℤ, pos}
 use lib.ListN.{length, take, drop, getD, length-drop}
 use lib.Seq.{length-take-le}
 use Rattle.integers.specs.Sample.{signed}
+use Rattle.converter_state.specs.declared.state.State.{State}
 use Rattle.pass_spec.specs.Pass.{headOf}
 use Rattle.pass_spec.proofs.Passing.{Stored}
 use Rattle.bytes_spec.specs.Bytes.{numberOf, samplesOf, pairOf}
@@ -40,11 +41,16 @@ first-are a b c d (e ∷ f ∷ g ∷ h ∷ i ∷ j ∷ k ∷ l ∷ xs) = let n :
 pub window-long : (image : List ℕ) → length image ≡ imageLength → length (windowBytes image) ≡ 8
 window-long image l = length-take-le 8 (drop windowPlace image) (omega (arith, length-drop windowPlace image, l))
 
--- what `join` answers writes the window of the image's state and the first samples
-pub joined-is : (image input : List ℕ) → length image ≡ imageLength → Joined (stateIn image) input (joinedBytes (windowBytes image) input)
-unfolding samplesOf savedOf
-joined-is image input l =
-    let ws : List ℕ = windowBytes image in
-    let w : (j : ℕ) → j < 4 → getD (samplesOf ws) j (pos 0) ≡ signed (numberOf (getD ws (j * 2) 0 ∷ getD ws (j * 2 + 1) 0 ∷ [])) = λ j h. sample-is ws j (omega (arith, window-long image l)) in
+-- what `join` answers writes the window whose bytes it is lent, and the first samples
+pub joined-by : (s : State) (ws input : List ℕ) → length ws ≡ 8 → s .window ≡ samplesOf ws → Joined s input (joinedBytes ws input)
+unfolding samplesOf
+joined-by s ws input l e =
+    let w : (j : ℕ) → j < 4 → getD (s .window) j (pos 0) ≡ signed (numberOf (getD ws (j * 2) 0 ∷ getD ws (j * 2 + 1) 0 ∷ []))
+    = λ j h. ap (λ z. getD z j (pos 0)) e ∙ sample-is ws j (omega (arith, l)) in
     samples-part (joinedBytes ws input) 0 (4 + headOf (samplesOf input))
     ∙ rw (w 0 (omega arith), w 1 (omega arith), w 2 (omega arith), w 3 (omega arith)) (first-are _ _ _ _ input)
+
+-- an image's window
+pub joined-is : (image input : List ℕ) → length image ≡ imageLength → Joined (stateIn image) input (joinedBytes (windowBytes image) input)
+unfolding savedOf
+joined-is image input l = joined-by (stateIn image) (windowBytes image) input (window-long image l) refl

@@ -29,7 +29,7 @@ ghost use Rattle.pass_spec.specs.Pass.{headOf, finishing, FedBy};
 ghost use Rattle.bytes_spec.specs.Bytes.{samplesOf};
 ghost use Rattle.host_spec.specs.Image.{isImage};
 ghost use Rattle.host_spec.specs.Host.{shownOf, imageFed, outputFed, isBuffer, feedReply, hostFeed};
-ghost use Rattle.host.specs.ByteFeeding.{asPairs, joinedBytes, Joined};
+ghost use Rattle.host.specs.ByteFeeding.{asPairs, joinedBytes, Joined, FirstPass, Begun, GoneOn};
 
 // A byte, or zero past the last.
 fn or_zero(bytes: &[u8], i: usize) -> u8
@@ -76,7 +76,7 @@ fn join_few(window: &[u8], input: &[u8]) -> [u8; 16]
 
 // A window's bytes and the four samples after them. Eight bytes of the input that lie there are copied at once: a sample that is read just after its bytes were stored one by one has to
 // wait for them.
-fn join(window: &[u8], input: &[u8]) -> [u8; 16]
+pub fn join(window: &[u8], input: &[u8]) -> [u8; 16]
     requires { ⌜ length (now window) ≡ 8 ⌝ }
     ensures { λ r. ⌜ r ≡ joinedBytes (now (window .entry)) (now (input .entry)) ⌝ }
 {
@@ -130,21 +130,31 @@ fn finish_over(
     finish(s, p, place, window, taken, written, clips)
 }
 
-// Feeds a state that is not refused: a pass over its window and the first samples, which are `joined`, and where samples are still needed one over the input.
-fn feed_bytes(s: State, joined: [u8; 16], input: &[u8], output: &mut [u8]) -> Fed
-    requires { ⌜ (isState s ≡ true) × Joined s (now input) joined ⌝ }
-    ensures { λ r. ⌜ FedBy asPairs s (samplesOf (now (input .entry))) (now (output .entry)) r (now (output .exit)) ⌝ }
+// The pass over the window and the first samples, which are `joined`. This and the next are two functions, so that the compiler copies them into the feed of one image and into that of
+// lanes: it does not copy the whole of `feed_bytes` twice, and a call of it makes an empty feed of one image more than a quarter longer.
+pub fn first_pass(s: State, joined: &[u8], input: &[u8], output: &mut [u8]) -> Progress
+    requires { ⌜ (isState s ≡ true) × (length (now joined) ≡ 16) × Joined s (now input) (now joined) ⌝ }
+    ensures { λ r. ⌜ FirstPass s (now (joined .entry)) (now (input .entry)) (now (output .entry)) r (now (output .exit)) ⌝ }
 {
     let n = 4 + head(input);
     let bytes = n * 2;
-    let first = pass_by(
+    pass_by(
         s.kernel,
         s.word,
         s.register,
         s.needed,
         &joined[..bytes],
         output,
-    );
+    )
+}
+
+// Goes on after the first pass: where samples are still needed, by one over the input.
+pub fn go_on(s: State, joined: &[u8], first: Progress, input: &[u8], output: &mut [u8]) -> Fed
+    requires { ⌜ (isState s ≡ true) × (length (now joined) ≡ 16) × Joined s (now input) (now joined) × Begun s (now joined) (now input) first (now output) ⌝ }
+    ensures { λ r. ⌜ GoneOn s (now (joined .entry)) (now (input .entry)) first (now (output .entry)) r (now (output .exit)) ⌝ }
+{
+    let n = 4 + head(input);
+    let bytes = n * 2;
     let start = first.written * 2;
     if first.at + 4 <= n || input.len() < 8 {
         let none = no_clips();
@@ -161,6 +171,15 @@ fn feed_bytes(s: State, joined: [u8; 16], input: &[u8], output: &mut [u8]) -> Fe
     finish_over(s, input, second, 4, first.written, first.clips)
 }
 
+// Feeds a state that is not refused: a pass over its window and the first samples, which are `joined`, and where samples are still needed one over the input.
+fn feed_bytes(s: State, joined: &[u8], input: &[u8], output: &mut [u8]) -> Fed
+    requires { ⌜ (isState s ≡ true) × (length (now joined) ≡ 16) × Joined s (now input) (now joined) ⌝ }
+    ensures { λ r. ⌜ FedBy asPairs s (samplesOf (now (input .entry))) (now (output .entry)) r (now (output .exit)) ⌝ }
+{
+    let first = first_pass(s, joined, input, output);
+    go_on(s, joined, first, input, output)
+}
+
 // The number of an end.
 fn end_number(end: End) -> u32
     ensures { λ r. ⌜ r ≡ endNumber end ⌝ }
@@ -172,7 +191,7 @@ fn end_number(end: End) -> u32
 }
 
 // What an image shows of counts that it has room for.
-fn shown_of(c: Counts) -> Shown
+pub fn shown_of(c: Counts) -> Shown
     requires { ⌜ (c .taken < 2 ^ 32) × (c .written < 2 ^ 32) × (total (c .clips) < 2 ^ 32) ⌝ }
     ensures { λ r. ⌜ r ≡ shownOf c ⌝ }
 {
@@ -195,7 +214,7 @@ fn feed_image(image: &mut [u8], input: &[u8], output: &mut [u8])
     let saved = decode(image);
     let joined = join(&image[WINDOW_PLACE..COUNTS_PLACE], input);
     let before = saved.state;
-    let fed = feed_bytes(before, joined, input, output);
+    let fed = feed_bytes(before, &joined, input, output);
     let state = fed.state;
     let counts = fed.counts;
     let shown = shown_of(counts);
@@ -209,7 +228,7 @@ fn feed_image(image: &mut [u8], input: &[u8], output: &mut [u8])
 }
 
 // What refusal 12 asks of a buffer's length.
-fn is_buffer(n: usize) -> bool
+pub fn is_buffer(n: usize) -> bool
     ensures { λ r. ⌜ r ≡ isBuffer n ⌝ }
 {
     if n % 2 != 0 {

@@ -36,7 +36,7 @@ const CLIPS_PLACE: usize = WRITTEN_PLACE + 4;
 const END_PLACE: usize = CLIPS_PLACE + 4;
 
 // How long an image is.
-const IMAGE_BYTES: usize = END_PLACE + 4;
+pub const IMAGE_BYTES: usize = END_PLACE + 4;
 
 // The window's place among the byte pairs of an image.
 const WINDOW_PAIR: usize = WINDOW_PLACE / 2;
@@ -108,15 +108,15 @@ fn put_head(image: &mut [u8], s: State)
     put_number(image, WORD_PLACE, 8, s.word);
 }
 
-// Writes the window.
-fn put_window(image: &mut [u8], window: [i16; 4])
-    requires { ⌜ length (now image) ≡ imageLength ⌝ }
-    ensures { λ _. ⌜ take countsPlace (now (image .exit)) ≡ take windowPlace (now (image .entry)) ++ pairsOf window ⌝ }
+// Writes a window over its eight bytes.
+pub fn put_window(bytes: &mut [u8], window: [i16; 4])
+    requires { ⌜ length (now bytes) ≡ 8 ⌝ }
+    ensures { λ _. ⌜ now (bytes .exit) ≡ pairsOf window ⌝ }
 {
-    put_sample(image, WINDOW_PAIR, window[0]);
-    put_sample(image, WINDOW_PAIR + 1, window[1]);
-    put_sample(image, WINDOW_PAIR + 2, window[2]);
-    put_sample(image, WINDOW_PAIR + 3, window[3]);
+    put_sample(bytes, 0, window[0]);
+    put_sample(bytes, 1, window[1]);
+    put_sample(bytes, 2, window[2]);
+    put_sample(bytes, 3, window[3]);
 }
 
 // Writes what follows the window: what a feed counted, and its end.
@@ -138,7 +138,7 @@ pub fn encode(image: &mut [u8], v: Saved)
     let state = v.state;
     let window = state.window;
     put_head(image, state);
-    put_window(image, window);
+    put_window(&mut image[WINDOW_PLACE..COUNTS_PLACE], window);
     let shown = v.shown;
     put_counts(image, shown);
 }

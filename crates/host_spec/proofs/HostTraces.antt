@@ -16,7 +16,7 @@ use Rattle.converter_spec.specs.Demand.{Call, Seen, Agrees}
 use Rattle.converter_spec.specs.Demand as state
 use Rattle.bytes_spec.specs.Bytes.{Bytes, samplesOf}
 use Rattle.host_spec.specs.Image.{savedOf, stateIn, isImage}
-use Rattle.host_spec.specs.Host.{savedBy, hostStart, hostRetune, isBuffer, hostFeed}
+use Rattle.host_spec.specs.Host.{FeedReply, savedBy, hostStart, hostRetune, isBuffer, hostFeed}
 use Rattle.host_spec.specs.Calls.{HostCall, HostMeets, imageAfter, SeenOn, madeOf, Shows}
 use Rattle.host_spec.specs.Calls as host
 use Rattle.host_spec.proofs.ShownCalls.{on-the-state, host-third}
@@ -69,55 +69,60 @@ seen-on-only image (c ∷ cs) h =
 
 -- ---- one feed, read off both statements: they speak of the feed, and of what it left
 -- the one call that is shown beside one feed
-pub record OneShown (s : State) (image input old : List ℕ) : Type 0 where
+pub record OneShown (s : State) (input old : List ℕ) (l : FeedReply) : Type 0 where
   pub answer : Fed
   pub left : List ℤ
   pub right : FedRight s (samplesOf input) (samplesOf old) answer left
-  pub saved : savedOf (hostFeed image input old .image) ≡ savedBy answer
-  pub refusal : hostFeed image input old .result ≡ answer .refusal
-  pub output : samplesOf (hostFeed image input old .output) ≡ left
+  pub saved : savedOf (l .image) ≡ savedBy answer
+  pub refusal : l .result ≡ answer .refusal
+  pub output : samplesOf (l .output) ≡ left
 
-module _ (input old : List ℕ) (b : Bytes input) (fits : isBuffer (length input) && isBuffer (length old) ≡ true) where
-  abbrev fed : List ℕ → HostCall
-  fed image = host.feed input old (hostFeed image input old)
-
-  one : (image : List ℕ) → SeenOn image (fed image ∷ [])
-  unfolding SeenOn
-  one image = ((b, refl), tt)
-
-  only-made : (image : List ℕ) → madeOf (fed image ∷ []) ≡ fed image ∷ []
+module _ (input old : List ℕ) (fits : isBuffer (length input) && isBuffer (length old) ≡ true) where
+  only-made : (l : FeedReply) → madeOf (host.feed input old l ∷ []) ≡ host.feed input old l ∷ []
   unfolding madeOf
-  only-made image = rw fits refl
+  only-made l = rw fits refl
 
-  -- what one call shows is a feed, and is all
-  read-off : {s : State} (image : List ℕ) (ds : List Call) → Seen s ds → Shows (fed image ∷ []) ds
-      → (t : OneShown s image input old) × (ds ≡ state.feed (samplesOf input) (samplesOf old) (t .answer) (t .left) ∷ [])
+  -- what one feed shows is a feed of the state, and is all
+  pub read-off : {s : State} (l : FeedReply) (ds : List Call) → Seen s ds → Shows (madeOf (host.feed input old l ∷ [])) ds
+      → (t : OneShown s input old l) × (ds ≡ state.feed (samplesOf input) (samplesOf old) (t .answer) (t .left) ∷ [])
   unfolding Seen Shows
-  read-off image [] h w = absurd w
-  read-off image (state.retune a r ∷ ds) h w = absurd (w .0)
-  read-off image (state.feed xs ys f left ∷ (d ∷ ds)) h w = absurd (w .1)
-  read-off {s} image (state.feed xs ys f left ∷ []) h w =
-      let v = w .0 in (
-        record {
-          answer = f;
-          left = left;
-          right = subst (λ zs. FedRight s zs (samplesOf old) f left) (v .taken-from) (subst (λ zs. FedRight s xs zs f left) (v .before) (h .0));
-          saved = v .saved;
-          refusal = v .refusal;
-          output = v .after;
-        },
-        λ i. state.feed (v .taken-from i) (v .before i) f left ∷ [],
-      )
+  read-off {s} l ds h w = go ds h (rw (only-made l) at w)
+    where
+      go : (ds : List Call) → Seen s ds → Shows (host.feed input old l ∷ []) ds → (t : OneShown s input old l) × (ds ≡ state.feed (samplesOf input) (samplesOf old) (t .answer) (t .left) ∷ [])
+      go [] h w = absurd w
+      go (state.retune a r ∷ ds) h w = absurd (w .0)
+      go (state.feed xs ys f left ∷ (d ∷ ds)) h w = absurd (w .1)
+      go (state.feed xs ys f left ∷ []) h w =
+          let v = w .0 in (
+            record {
+              answer = f;
+              left = left;
+              right = subst (λ zs. FedRight s zs (samplesOf old) f left) (v .taken-from) (subst (λ zs. FedRight s xs zs f left) (v .before) (h .0));
+              saved = v .saved;
+              refusal = v .refusal;
+              output = v .after;
+            },
+            λ i. state.feed (v .taken-from i) (v .before i) f left ∷ [],
+          )
 
-  pub one-on-the-state : (image : List ℕ) → Bytes image → isImage image ≡ true → OneShown (stateIn image) image input old
-  one-on-the-state image h i =
-      let t = on-the-state image h i (fed image ∷ []) (one image) in
-      read-off image (t .calls) (t .seen) (rw (only-made image) at (t .shows)) .0
+  module _ (b : Bytes input) where
+    abbrev fed : List ℕ → HostCall
+    fed image = host.feed input old (hostFeed image input old)
 
-  pub one-agrees : (image : List ℕ) (k : ℕ) (a : Setting) (P : ℕ) → P < 2 ^ 32 → hostStart image k a P .result ≡ 0
-      → (t : OneShown (started k a P .state) (hostStart image k a P .image) input old) × Agrees (begin k a P) (state.feed (samplesOf input) (samplesOf old) (t .answer) (t .left) ∷ [])
-  one-agrees image k a P l z =
-      let from = hostStart image k a P .image in
-      let t = host-third image k a P l z (fed from ∷ []) (one from) in
-      let r = read-off from (t .0 .calls) (t .0 .seen) (rw (only-made from) at (t .0 .shows)) in
-      (r .0, subst (Agrees (begin k a P)) (r .1) (t .1))
+    one : (image : List ℕ) → SeenOn image (fed image ∷ [])
+    unfolding SeenOn
+    one image = ((b, refl), tt)
+
+    pub one-on-the-state : (image : List ℕ) → Bytes image → isImage image ≡ true → OneShown (stateIn image) input old (hostFeed image input old)
+    one-on-the-state image h i =
+        let t = on-the-state image h i (fed image ∷ []) (one image) in
+        read-off (hostFeed image input old) (t .calls) (t .seen) (t .shows) .0
+
+    pub one-agrees : (image : List ℕ) (k : ℕ) (a : Setting) (P : ℕ) → P < 2 ^ 32 → hostStart image k a P .result ≡ 0
+        → (t : OneShown (started k a P .state) input old (hostFeed (hostStart image k a P .image) input old))
+        × Agrees (begin k a P) (state.feed (samplesOf input) (samplesOf old) (t .answer) (t .left) ∷ [])
+    one-agrees image k a P l z =
+        let from = hostStart image k a P .image in
+        let t = host-third image k a P l z (fed from ∷ []) (one from) in
+        let r = read-off (hostFeed from input old) (t .0 .calls) (t .0 .seen) (t .0 .shows) in
+        (r .0, subst (Agrees (begin k a P)) (r .1) (t .1))

@@ -1,11 +1,12 @@
 -- What a host call returns and leaves, by cases: refused, or accepted. Assumes nothing.
-use mathlib.Core.Path.{_≡_, ap, _∙_}
+use mathlib.Core.Path.{_≡_, refl, ap, _∙_}
 use mathlib.Core.Bool.{Bool, true, false, _&&_}
+use mathlib.Core.Logic.{_⊎_, inl, inr}
 use mathlib.Core.List.{List, _++_}
 use Prim.Native.Nat.{ℕ, _%_, _≤_}
 use native.Mathlib.Omega.{arith}
 use borrow.Author.Tests.{leb-true, le-leb, eqb-true, eq-eqb, ne-eqb}
-use lib.Dec.{leb, eqb}
+use lib.Dec.{eqb}
 use lib.ListN.{length, take, drop}
 use Rattle.integers.specs.Table.{both}
 use Rattle.oscillator_spec.specs.declared.settings.Setting.{Setting}
@@ -19,7 +20,7 @@ use Rattle.host_spec.specs.Host.{accepting, reply, uncounted, hostStart,
 use Rattle.host_spec.proofs.Images.{is-image, word-bytes}
 
 -- a refusal leaves what was there
-keeps : (n : ℕ) (new old : List ℕ) → (n ≡ 0 → ⊥) → accepting n new old ≡ old
+pub keeps : (n : ℕ) (new old : List ℕ) → (n ≡ 0 → ⊥) → accepting n new old ≡ old
 keeps n new old h = rw (ne-eqb n 0 h)
 
 -- ---- start
@@ -79,6 +80,12 @@ buffer-is n e = let h = both (eqb (n % 2) 0) _ e in (eqb-true (n % 2) 0 (h .0), 
 
 pub is-buffer : (n : ℕ) → n % 2 ≡ 0 → n ≤ 65536 → isBuffer n ≡ true
 is-buffer n e h = rw (eq-eqb (n % 2) 0 e, le-leb n 65536 h)
+
+-- one of two buffers is refused
+pub refused-two : (a b : Bool) → (a ≡ false) ⊎ (b ≡ false) → (a && b) ≡ false
+refused-two true b (inl e) = ap (λ (t : Bool). t && b) e
+refused-two true b (inr e) = e
+refused-two false b h = refl
 
 module _ (image input output : List ℕ) where
   abbrev fits : Bool

@@ -4,3 +4,10 @@ pub mod Hosts
 pub mod HostExamples
 pub mod ShownCalls
 pub mod HostTraces
+pub mod LaneImages
+pub mod LaneHosts
+pub mod LaneFeeds
+pub mod ShownLanes
+pub mod LaneTraces
+pub mod LanesSaved
+pub mod LaneExamples

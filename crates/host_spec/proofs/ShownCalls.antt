@@ -1,5 +1,5 @@
 -- Demand 3 for the host: an accepted image stays accepted, a host call on it shows the call on its state, and so a list of them shows one that agrees with the paper's run. Assumes nothing.
-use mathlib.Core.Path.{_≡_, refl, sym, ap, subst, _∙_}
+use mathlib.Core.Path.{_≡_, refl, sym, ap, _∙_}
 use mathlib.Core.Bool.{Bool, true, false, cond, _&&_, true≢false}
 use mathlib.Core.List.{List, [], _∷_, map}
 use Prim.Native.Nat.{ℕ, zero, suc, _/_, _^_, _≤_, _<_}
@@ -30,7 +30,7 @@ use Rattle.converter_spec.proofs.Traces.{Asked, call, calls, seen, seen-only}
 use Rattle.converter_spec.proofs.Traces as asked
 use Rattle.bytes_spec.specs.Overwritten.{over}
 use Rattle.host_spec.specs.declared.saved.Saved.{Saved}
-use Rattle.bytes_spec.specs.Bytes.{Bytes, numberOf, numberAt, bytesOf, samplesOf, pairsOf}
+use Rattle.bytes_spec.specs.Bytes.{Bytes, numberOf, numberAt, bytesOf, samplesOf}
 use Rattle.host_spec.specs.Image.{zerosPlace, frontOf, imageOf, savedOf, stateIn, hasImageLength, isImage}
 use Rattle.host_spec.specs.Host.{firstRefusal, Reply, withState, uncounted, hostStart, hostRetune, isBuffer, savedBy, feedReply, imageFed, outputFed, hostFeed}
 use Rattle.host_spec.specs.Calls.{HostCall, feed, retune, HostMeets, imageAfter, SeenOn, isMade, madeOf, FeedShown, ShowsCall, Shows, CallsShown, OnTheState, HostThird}
@@ -41,9 +41,9 @@ use Rattle.host_spec.proofs.Hosts.{buffer-is, feed-odd, feed-done, retu
 use Rattle.host_spec.proofs.Windows.{Four, rule-four}
 
 -- ---- accepted images: bytes that refusal 5 lets through
-record Good (bs : List ℕ) : Type 0 where
-  bytes : Bytes bs
-  image : isImage bs ≡ true
+pub record Good (bs : List ℕ) : Type 0 where
+  pub bytes : Bytes bs
+  pub image : isImage bs ≡ true
 
 -- "two zero bytes"
 reserved : (v : Saved) → numberAt zerosPlace 2 (imageOf v) ≡ 0
@@ -51,7 +51,7 @@ unfolding imageOf frontOf bytesOf numberOf
 reserved v = refl
 
 -- what is written as an image is accepted
-written-good : (v : Saved) → Fits v → isState (v .state) ≡ true → Good (imageOf v)
+pub written-good : (v : Saved) → Fits v → isState (v .state) ≡ true → Good (imageOf v)
 written-good v f h = record {
   bytes = image-bytes v;
   image = image-is (imageOf v) (image-long v (f .four)) (reserved v) (ap (λ (u : Saved). isState (u .state)) (saved-image v f) ∙ h);
@@ -116,7 +116,11 @@ module _ {image : List ℕ} (g : Good image) (input old : List ℕ) (b : Bytes i
   saved-fed : savedOf (imageFed image input old) ≡ savedBy (accepted (runOf image input old))
   saved-fed = ap savedOf image-fed ∙ saved-image _ run-fits
 
-  fed-good : Good (imageFed image input old)
+  -- the state that it holds is the one that a feed of the state hands back
+  pub state-fed : stateIn (imageFed image input old) ≡ fedOf (stateIn image) (samplesOf input) (length old / 2) .state
+  state-fed = rw (fed-is .0) (ap (λ (v : Saved). v .state) saved-fed)
+
+  pub fed-good : Good (imageFed image input old)
   fed-good = rw image-fed (written-good _ run-fits (state-is _ (run-sound .0)))
 
   -- the image and the buffer show what a feed of the state answers and leaves
@@ -133,14 +137,14 @@ module _ {image : List ℕ} (g : Good image) (input old : List ℕ) (b : Bytes i
   })
 
 -- ---- what a host call does to an accepted image: it leaves another, and shows its call, if it makes one, on the state
-abbrev askedOf : HostCall → Asked
+abbrev pub askedOf : HostCall → Asked
 askedOf (feed input old l) = asked.feed (samplesOf input) (samplesOf old)
 askedOf (retune a l) = asked.retune a
 
-record Steps (image : List ℕ) (c : HostCall) : Type 0 where
-  good : Good (imageAfter c)
-  makes : isMade c ≡ true → ShowsCall c (call (stateIn image) (askedOf c)) × (after (call (stateIn image) (askedOf c)) ≡ stateIn (imageAfter c))
-  makes-none : isMade c ≡ false → stateIn (imageAfter c) ≡ stateIn image
+pub record Steps (image : List ℕ) (c : HostCall) : Type 0 where
+  pub good : Good (imageAfter c)
+  pub makes : isMade c ≡ true → ShowsCall c (call (stateIn image) (askedOf c)) × (after (call (stateIn image) (askedOf c)) ≡ stateIn (imageAfter c))
+  pub makes-none : isMade c ≡ false → stateIn (imageAfter c) ≡ stateIn image
 
 -- a feed: refusal 12 makes no call
 step-feed : {image : List ℕ} → Good image → (input old : List ℕ) → Bytes input → Steps image (feed input old (hostFeed image input old))
@@ -174,7 +178,7 @@ word-fits f w h = record {
   end = f .end;
 }
 
-step-retune : {image : List ℕ} → Good image → (a : Setting) → Steps image (retune a (hostRetune image a))
+pub step-retune : {image : List ℕ} → Good image → (a : Setting) → Steps image (retune a (hostRetune image a))
 step-retune {image} g a = go (wordOf a) refl
   where
     -- the retune's answer r, as the image shows it that the host's leaves
@@ -240,7 +244,7 @@ shown-only {s} {cs} t u =
     ∙ sym (seen-only s (u .calls) (u .seen))
 
 -- ---- from an accepted start
-first-zero : (n m : ℕ) → firstRefusal n m ≡ 0 → n ≡ 0
+pub first-zero : (n m : ℕ) → firstRefusal n m ≡ 0 → n ≡ 0
 first-zero zero m z = refl
 first-zero (suc n) m z = rw (ne-eqb (suc n) 0 (λ e. omega (arith, e))) at z
 
@@ -249,7 +253,7 @@ start-left : (image : List ℕ) (k : ℕ) (a : Setting) (P : ℕ) → hostStart 
 unfolding hostStart
 start-left image k a P z = (first-zero (started k a P .refusal) (cond (hasImageLength image) 0 5) z, rw z)
 
-start-fits : (k : ℕ) (a : Setting) (P : ℕ) → P < 2 ^ 32 → Accepted k a P → Fits (uncounted (started k a P .state))
+pub start-fits : (k : ℕ) (a : Setting) (P : ℕ) → P < 2 ^ 32 → Accepted k a P → Fits (uncounted (started k a P .state))
 unfolding AreSamples
 start-fits k a P l h =
     let z = h .sound in

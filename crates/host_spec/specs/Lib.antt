@@ -1,3 +1,6 @@
 pub mod Image
 pub mod Host
 pub mod Calls
+pub mod LaneImage
+pub mod LaneHost
+pub mod LaneCalls

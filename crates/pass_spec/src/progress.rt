@@ -1,11 +1,12 @@
 // Where a pass stands, and what one output of it comes to.
 use kernels_spec::Clips;
 
-// Where a pass stands: the next output's register, and `at`, where its window begins in the samples (past length − 4, samples are still needed); and what was written so far, with its clips.
+// Where a pass stands: the next output's register, and `at`, where its window begins in the samples (past length − 4, samples are still needed); and what was written so far, with its clips. (The
+// two counts stand apart, so that the compiler does not load them as one where they were stored one by one: decision 87.)
 pub struct Progress {
     pub register: u32,
-    pub at: usize,
     pub written: usize,
+    pub at: usize,
     pub clips: Clips,
 }
 

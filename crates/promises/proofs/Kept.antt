@@ -2,7 +2,11 @@
 use Rattle.kernels_spec.proofs.Card.{second}
 use Rattle.kernels_spec.proofs.Close.{near-paper}
 use Rattle.converter_spec.proofs.Third.{third}
+use Rattle.lanes_spec.proofs.LanesAlone.{each-lane-alone}
+use Rattle.lanes_spec.proofs.OneLane.{only-that-lane}
+use Rattle.lanes_spec.proofs.LanesThird.{lanes-third}
 use Rattle.host_spec.proofs.ShownCalls.{on-the-state, host-third}
+use Rattle.host_spec.proofs.ShownLanes.{host-lanes-third}
 use Rattle.program_spec.proofs.TurnByTurn.{whole-run}
 use Rattle.program_spec.proofs.TurnsGoOn.{turns-go-on}
 use Rattle.promises.specs.Promises.{Promises}
@@ -18,4 +22,8 @@ promises = record {
   whole-run = whole-run;
   turns-go-on = turns-go-on;
   starred = starred;
+  each-lane-alone = each-lane-alone;
+  only-that-lane = only-that-lane;
+  lanes-third = lanes-third;
+  host-lanes-third = host-lanes-third;
 }

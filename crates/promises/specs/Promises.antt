@@ -1,8 +1,11 @@
--- What this repository promises over its definitions, on one page: a field for each promise, in the order of document 01, with the sentence that it renders. Each cites a statement, which
+-- What this repository promises over its definitions, on one page: a field for each promise, in the order of document 01 and then of the requests, with the sentence that it renders. Each cites a statement, which
 -- stands with the definitions of its layer; what single functions return and leave is in their contracts. The one value of this record is in proofs/Kept.antt. Definitions only.
 use Rattle.kernels_spec.specs.Demand2.{Second, NearPaper}
 use Rattle.converter_spec.specs.Demand.{Third}
+use Rattle.lanes_spec.specs.LaneFeeding.{EachLaneAlone}
+use Rattle.lanes_spec.specs.LaneDemand.{OnlyThatLane, LanesThird}
 use Rattle.host_spec.specs.Calls.{OnTheState, HostThird}
+use Rattle.host_spec.specs.LaneCalls.{HostLanesThird}
 use Rattle.program_spec.specs.WholeRun.{WholeRun, TurnsGoOn}
 use Rattle.promises.specs.Starred.{Starred}
 
@@ -24,3 +27,11 @@ pub record Promises : Type 0 where
   pub turns-go-on : TurnsGoOn
   -- "Settled examples": "Starred ones are proved together."
   pub starred : Starred
+  -- request U1: "The outcome equals feeding each lane alone, lane by lane"; "lanes beyond the lane count keep their windows and report clip count 0"
+  pub each-lane-alone : EachLaneAlone
+  -- request U1: "Changing one lane's samples changes only that lane's outputs, its window and its clip count": in one call, and over lists of calls
+  pub only-that-lane : OnlyThatLane
+  -- demand 3 for each lane: what a lane saw of a list of lane calls from an accepted start agrees with the paper's run
+  pub lanes-third : LanesThird
+  -- and for each lane of an image of lanes, over lists of host calls on it
+  pub host-lanes-third : HostLanesThird

@@ -2,10 +2,13 @@
 use host::feed_buffers;
 use host::retune_by;
 use host::start_by;
+use host_lanes::feed_lane_buffers;
+use host_lanes::start_lanes_by;
 use oscillator_spec::Setting;
 ghost use mathlib.Core.Path.{_≡_};
 ghost use Rattle.oscillator_spec.specs.declared.settings.Setting.the-variants as setting;
 ghost use Rattle.host_spec.specs.Host.{reply, feedReply, hostStart, hostRetune, hostFeed};
+ghost use Rattle.host_spec.specs.LaneHost.{hostStartLanes, hostFeedLanes};
 
 // Feeds the samples of the input, and writes outputs and the whole image.
 #[no_mangle]
@@ -72,4 +75,57 @@ pub extern "C" fn resampler_retune_rates(image: &mut [u8], fin: u32, fout: u32) 
     ensures { λ r. ⌜ reply r (now (image .exit)) ≡ hostRetune (now (image .entry)) (setting.Rates fin fout) ⌝ }
 {
     retune_by(image, Setting::Rates(fin, fout))
+}
+
+// Feeds each of the first lanes of an image of lanes the samples of its part of the input, and writes outputs and the whole image but for the windows of the other lanes.
+#[no_mangle]
+pub extern "C" fn resampler_feed_lanes(
+    image: &mut [u8],
+    lanes: u32,
+    input: &[u8],
+    output: &mut [u8],
+) -> u32
+    ensures { λ r. ⌜ feedReply r (now (image .exit)) (now (output .exit)) ≡ hostFeedLanes (now (image .entry)) lanes (now (input .entry)) (now (output .entry)) ⌝ }
+{
+    feed_lane_buffers(image, lanes, input, output)
+}
+
+// Starts lanes in the image, at a control word.
+#[no_mangle]
+pub extern "C" fn resampler_start_lanes_word(
+    image: &mut [u8],
+    kernel: u32,
+    word: u64,
+    phase: u32,
+) -> u32
+    ensures { λ r. ⌜ reply r (now (image .exit)) ≡ hostStartLanes (now (image .entry)) kernel (setting.Word word) phase ⌝ }
+{
+    start_lanes_by(image, kernel, Setting::Word(word), phase)
+}
+
+// Starts lanes in the image, at a measured ratio of the rates.
+#[no_mangle]
+pub extern "C" fn resampler_start_lanes_ratio(
+    image: &mut [u8],
+    kernel: u32,
+    ratio: f64,
+    phase: u32,
+) -> u32
+    ensures { λ r. ⌜ reply r (now (image .exit)) ≡ hostStartLanes (now (image .entry)) kernel (setting.Ratio ratio) phase ⌝ }
+{
+    start_lanes_by(image, kernel, Setting::Ratio(ratio), phase)
+}
+
+// Starts lanes in the image, at two rates in whole hertz.
+#[no_mangle]
+pub extern "C" fn resampler_start_lanes_rates(
+    image: &mut [u8],
+    kernel: u32,
+    fin: u32,
+    fout: u32,
+    phase: u32,
+) -> u32
+    ensures { λ r. ⌜ reply r (now (image .exit)) ≡ hostStartLanes (now (image .entry)) kernel (setting.Rates fin fout) phase ⌝ }
+{
+    start_lanes_by(image, kernel, Setting::Rates(fin, fout), phase)
 }

@@ -2,9 +2,13 @@
 mod calls;
 
 pub use calls::resampler_feed;
+pub use calls::resampler_feed_lanes;
 pub use calls::resampler_retune_rates;
 pub use calls::resampler_retune_ratio;
 pub use calls::resampler_retune_word;
+pub use calls::resampler_start_lanes_rates;
+pub use calls::resampler_start_lanes_ratio;
+pub use calls::resampler_start_lanes_word;
 pub use calls::resampler_start_rates;
 pub use calls::resampler_start_ratio;
 pub use calls::resampler_start_word;

@@ -10,6 +10,12 @@ Inv-loop seed₀ group run₀ i₀ seed run i = i ≤ 12
 abbrev μ-loop : tie.MeasureT-loop
 μ-loop seed₀ group run₀ i₀ seed run i = 12 - i
 
+list-requires : tie.Need-list-requires Inv-loop μ-loop
+list-requires c κs = search needs
+
+returns : tie.Need-returns Inv-loop μ-loop
+returns c = search needs
+
 begun-requires : tie.Need-begun-requires Inv-loop μ-loop
 begun-requires c κs = search needs
 
@@ -28,8 +34,8 @@ loop-less c = search needs
 loop-again : tie.Need-loop-again Inv-loop μ-loop
 loop-again c = search needs
 
-returns : tie.Need-returns Inv-loop μ-loop
-returns c = search needs
+returns-2 : tie.Need-returns-2 Inv-loop μ-loop
+returns-2 c = search needs
 
 pub list-spec : {M : Type 1} → statement M
 list-spec =
@@ -37,10 +43,12 @@ list-spec =
     (tie.spec
     Inv-loop
     μ-loop
+    list-requires
+    returns
     begun-requires
     loop-holds
     called-in-requires
     add-i
     loop-less
     loop-again
-    returns)
+    returns-2)

@@ -1,14 +1,14 @@
 -- `host::byte_feed::feed_buffers` meets its contract. Assumes nothing.
 use borrow.Author.Needs.{needs}
 use borrow.Author.Tests.{not-true, not-false}
-use mathlib.Core.Path.{_≡_, refl, sym, ap, _∙_}
-use mathlib.Core.Bool.{Bool, true, false, _&&_}
-use mathlib.Core.Logic.{_⊎_, inl, inr, ⊎-elim}
+use mathlib.Core.Path.{_≡_, sym, _∙_}
+use mathlib.Core.Bool.{true, false, _&&_}
+use mathlib.Core.Logic.{inl, inr, ⊎-elim}
 use lib.ListN.{length}
 use denote.Ref.{now}
 use Rattle.host_spec.specs.Image.{isImage}
 use Rattle.host_spec.specs.Host.{isBuffer, feedReply}
-use Rattle.host_spec.proofs.Hosts.{buffer-is, feed-bad, feed-odd, feed-done}
+use Rattle.host_spec.proofs.Hosts.{buffer-is, refused-two, feed-bad, feed-odd, feed-done}
 use Rattle.host.proofs.byte_feed.feed_buffers.Statement.{statement}
 use Rattle.host.proofs.byte_feed.feed_buffers.Tie as tie
 
@@ -31,13 +31,8 @@ returns-2 c =
     let one = isBuffer (length (now (a .input))) in
     let two = isBuffer (length (now (a .output))) in
     let odd : (one && two) ≡ false =
-    ⊎-elim (λ t. and-false one two (inl (sym (c .before .is-buffer .ensures) ∙ not-true _ (t .taken)))) (λ t. and-false one two (inr (sym (t .1 .ensures) ∙ not-true _ (t .2 .taken)))) (c .if2 .came) in
+    ⊎-elim (λ t. refused-two one two (inl (sym (c .before .is-buffer .ensures) ∙ not-true _ (t .taken)))) (λ t. refused-two one two (inr (sym (t .1 .ensures) ∙ not-true _ (t .2 .taken)))) (c .if2 .came) in
     sym (feed-odd _ _ _ (accepted (c .before .before)) odd)
-  where
-    and-false : (a b : Bool) → (a ≡ false) ⊎ (b ≡ false) → (a && b) ≡ false
-    and-false true b (inl e) = ap (λ (t : Bool). t && b) e
-    and-false true b (inr e) = e
-    and-false false b h = refl
 
 returns-3 : tie.Need-returns-3
 returns-3 c =

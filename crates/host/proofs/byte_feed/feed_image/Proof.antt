@@ -31,7 +31,7 @@ module _ (c : tie.After-decode) where
 -- what the feed counted has room in four bytes
 module _ (c : tie.After-feed-bytes) where
   abbrev decoded : tie.After-decode
-  decoded = c .before .before .before .before .before .before
+  decoded = c .before .before .before .before .before .before .before
 
   small : let r = c .feed-bytes .result .counts in (r .taken ≤ 65536) × (r .written ≤ 65536) × (total (r .clips) ≤ 65536)
   small =
@@ -64,10 +64,13 @@ part-join-end c = let l = long (c .before .before .before .before .before .befor
 join-requires : tie.Need-join-requires
 join-requires c κs = let s = c .before .before .before .before .before .before .before in window-long (now (s .args .image)) (long s)
 
+slice-aggregate-feed-bytes : tie.Need-slice-aggregate-feed-bytes
+slice-aggregate-feed-bytes c = search needs
+
 feed-bytes-requires : tie.Need-feed-bytes-requires
 feed-bytes-requires c κs =
-    let d = c .before .before .before .before .before in
-    (good d, rw (held d, c .before .before .join .ensures) (joined-is _ _ (long (d .before .before .before .before .before))))
+    let d = c .before .before .before .before .before .before in
+    (good d, search needs, rw (held d, c .before .before .before .join .ensures) (joined-is _ _ (long (d .before .before .before .before .before))))
 
 shown-of-requires : tie.Need-shown-of-requires
 shown-of-requires c κs = let z = small (c .before .before .before .before) in (omega (arith, z .0), omega (arith, z .1), omega (arith, z .2))
@@ -90,6 +93,7 @@ feed-image-spec =
     part-join-start
     part-join-end
     join-requires
+    slice-aggregate-feed-bytes
     feed-bytes-requires
     shown-of-requires
     encode-requires

@@ -1,0 +1,42 @@
+-- An image of lanes that is written in parts: the image of lane 0, then the clip counts, or zeros over all that lies behind it. Assumes nothing.
+use mathlib.Core.Path.{_≡_, sym, ap, _∙_}
+use mathlib.Core.List.{List, _++_, flatMap, append-assoc, append-nil}
+use Prim.Native.Nat.{ℕ, _+_, _-_}
+use native.Mathlib.Omega.{arith}
+use lib.ListN.{length, take, drop, replicate, length-append, length-drop}
+use lib.Seq.{take-at, take-append-add}
+use Rattle.bytes_spec.specs.Bytes.{bytesOf}
+use Rattle.bytes_spec.proofs.LentParts.{lent, lent-length, past-lent, returned}
+use Rattle.host_spec.specs.declared.saved.Saved.{Saved}
+use Rattle.host_spec.specs.Image.{imageLength, imageOf}
+use Rattle.host_spec.specs.LaneImage.{clipsSize, laneClipsPlace, lanesLength, otherWindows, lanesImageOf}
+
+module _ (first img : List ℕ) (n : length first ≡ imageLength) (l : length img ≡ lanesLength) where
+  -- with the image of lane 0
+  abbrev pub begun : List ℕ
+  begun = first ++ drop imageLength img
+
+  pub begun-long : length begun ≡ lanesLength
+  begun-long = omega (arith, length-append first (drop imageLength img), length-drop imageLength img, n, l)
+
+  -- the counts' bytes are lent
+  pub counts-long : length (lent laneClipsPlace begun) ≡ lanesLength - laneClipsPlace
+  counts-long = lent-length laneClipsPlace begun ∙ ap (λ k. k - laneClipsPlace) begun-long
+
+  before-counts : take laneClipsPlace begun ≡ first ++ otherWindows img
+  before-counts = ap (λ k. take (k + (laneClipsPlace - imageLength)) begun) (sym n) ∙ take-append-add first (drop imageLength img) (laneClipsPlace - imageLength)
+
+  pub all-written : (v : Saved) {ws ks : List ℕ} (cs : List ℕ) → first ≡ imageOf v → otherWindows img ≡ ws → ks ≡ flatMap (bytesOf clipsSize) cs → returned laneClipsPlace begun ks ≡ lanesImageOf v ws cs
+  unfolding lanesImageOf
+  all-written v cs f w k =
+      (λ t. before-counts t ++ (k t ++ past-lent laneClipsPlace begun t))
+      ∙ ap (λ z. first ++ otherWindows img ++ z) (append-nil (flatMap (bytesOf clipsSize) cs))
+      ∙ append-assoc first (otherWindows img) (flatMap (bytesOf clipsSize) cs)
+      ∙ (λ t. f t ++ (w t ++ flatMap (bytesOf clipsSize) cs))
+
+  -- or all bytes behind lane 0's image are
+  pub all-cleared : {zs : List ℕ} → zs ≡ replicate (length (lent imageLength begun)) 0 → returned imageLength begun zs ≡ first ++ replicate (lanesLength - imageLength) 0
+  all-cleared z =
+      let m : length (lent imageLength begun) ≡ lanesLength - imageLength = lent-length imageLength begun ∙ ap (λ k. k - imageLength) begun-long in
+      (λ t. take-at first (drop imageLength img) imageLength n t ++ ((z ∙ ap (λ k. replicate k 0) m) t ++ past-lent imageLength begun t))
+      ∙ ap (λ w. first ++ w) (append-nil (replicate (lanesLength - imageLength) 0))

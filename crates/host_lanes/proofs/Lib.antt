@@ -1,0 +1,5 @@
+mod Counts
+mod PartByPart
+pub mod LaneLoop
+mod LanesWritten
+mod Started

@@ -1,0 +1,2 @@
+pub mod LaneLoop
+pub mod Answers

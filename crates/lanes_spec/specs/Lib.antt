@@ -1,0 +1,2 @@
+pub mod LaneFeeding
+pub mod LaneDemand
