@@ -2,17 +2,17 @@
 use mathlib.Core.Path.{_≡_, refl, sym, ap, _∙_}
 use mathlib.Core.Bool.{Bool, true, false}
 use mathlib.Core.List.{List, _∷_}
-use Prim.Native.Nat.{ℕ, zero, suc, _+_, _-_, _*_, _^_, _<_}
+use Prim.Native.Nat.{ℕ, zero, suc, _+_, _-_, _*_, _^_, _≤_, _<_}
 use native.Mathlib.Omega.{arith}
 use native.Mathlib.Nat.{zero-add, suc-add}
 use lib.IntN.{ℤ, pos}
 use lib.ListN.{length, take, drop, replicate}
 use Rattle.oscillator_spec.specs.declared.settings.Setting.{Setting}
-use Rattle.oscillator_spec.specs.Word.{Outcome, word, refused, wordOf}
+use Rattle.oscillator_spec.specs.Word.{Outcome, word, refused, isWord, wordOf}
 use Rattle.converter_state.specs.declared.state.State.{State}
 use Rattle.converter_state.specs.declared.state.Retuned.{Retuned}
-use Rattle.converter_state.specs.Start.{stateOf, silence, isState, started, retuned}
-use Rattle.converter_state.proofs.States.{start-accepted, retune-state, retune-setting, retune-word}
+use Rattle.converter_state.specs.Start.{stateOf, silence, noState, isKernel, isState, started, retuned}
+use Rattle.converter_state.proofs.States.{start-accepted, start-kernel, start-setting, retune-state, retune-setting, retune-word}
 use Rattle.lanes_state.specs.declared.lanes.Lanes.{Lanes}
 use Rattle.lanes_state.specs.Parts.{part}
 use Rattle.lanes_state.specs.Lanes.{laneLimit, windowLength, laneOf, lanesOf, isLanes, allSilent, startedLanes, retunedLanes, laneRetuned}
@@ -89,3 +89,23 @@ lane-retuned l a i = by-state (isLanes l) refl
 pub retuned-windows : (l : Lanes) (a : Setting) → retunedLanes l a .lanes .windows ≡ l .windows
 unfolding retunedLanes lanesOf
 retuned-windows l a = refl
+
+-- ---- a refused start answers lanes of zeros, which every other call refuses
+abbrev pub noLanes : Lanes
+noLanes = lanesOf noState allSilent
+
+pub no-lanes-is : noLanes ≡ record { kernel = 0; needed = 0; register = 0; word = 0; windows = replicate 64 (pos 0) }
+unfolding lanesOf allSilent
+no-lanes-is = refl
+
+pub no-lanes : isLanes noLanes ≡ false
+unfolding isLanes laneOf lanesOf isState isKernel isWord
+no-lanes = refl
+
+pub start-lanes-kernel : (k : ℕ) (a : Setting) (p : ℕ) → 4 ≤ k → startedLanes k a p ≡ record { lanes = noLanes; refusal = 1 }
+unfolding startedLanes
+start-lanes-kernel k a p h = rw (start-kernel k a p h)
+
+pub start-lanes-setting : (k : ℕ) (a : Setting) (p n : ℕ) → k ≤ 3 → wordOf a ≡ refused n → startedLanes k a p ≡ record { lanes = noLanes; refusal = n }
+unfolding startedLanes
+start-lanes-setting k a p n h e = rw (start-setting k a p n h e)
