@@ -18,14 +18,9 @@
 
    `compare --count FILE`, under callgrind as bench/run calls it, prints instructions instead of nanoseconds, of one
    shorter stream each. */
-#define _POSIX_C_SOURCE 199309L
+#include "measure.h"
 #include "plain.h"
 #include "resampler.h"
-
-#include <stdio.h>
-#include <stdlib.h>
-#include <string.h>
-#include <time.h>
 
 typedef uint32_t start_function(uint8_t *, size_t, uint32_t, uint64_t, uint32_t);
 typedef uint32_t feed_function(uint8_t *, size_t, const uint8_t *, size_t, uint8_t *, size_t);
@@ -94,7 +89,6 @@ static const struct maker makers[] = {
     {start_each, feed_each, IMAGE},
 };
 static const size_t blocks[] = {16, 64, 2048};
-static const char columns[] = "lanes    plain C  16 calls lanes/C  lanes/16 calls";
 #define THIRD_ONE "sixteen calls"
 
 #else
@@ -119,67 +113,16 @@ static const struct maker makers[] = {
 #endif
 };
 static const size_t blocks[] = {64, 16384};
-#ifdef OLD
-static const char columns[] = "new      new/C  new/old";
-#else
-static const char columns[] = "library  plain C  ratio";
-#endif
 #define THIRD_ONE "the older archive"
 
 #endif
 
-enum { NEW, PLAIN, THIRD, MAKERS = sizeof makers / sizeof makers[0], BLOCKS = sizeof blocks / sizeof blocks[0] };
+enum { MAKERS = sizeof makers / sizeof makers[0], BLOCKS = sizeof blocks / sizeof blocks[0] };
 enum { SAMPLES = 1 << 18, COUNTED_SAMPLES = 1 << 16, OUTPUT_BYTES = 4 * SAMPLES + SPACE, CALLS = 20000 };
-enum { ROWS = 16 * BLOCKS, ROUNDS = 8, RUNS = 50 }; /* the rounds lie apart in time, as other work does */
+enum { ROWS = 16 * BLOCKS };
 
 static uint8_t wave[2 * SAMPLES], input[2 * SAMPLES], outputs[MAKERS][OUTPUT_BYTES];
-static const char *dumps; /* where callgrind writes, or null where time is measured */
 static size_t samples = SAMPLES;
-
-static void fail(const char *what)
-{
-    fprintf(stderr, "compare: %s\n", what);
-    exit(1);
-}
-
-/* Callgrind writes what it counted since the last time to a new file when this is entered: `dumps` with a number. It
-   collects in the feeds only. Returns the instructions so far. */
-__attribute__((noinline)) static double instructions(void)
-{
-    static unsigned files;
-    static double sum;
-    char path[4096], line[4096];
-    double count = -1;
-    snprintf(path, sizeof path, "%s.%u", dumps, ++files);
-    FILE *file = fopen(path, "r");
-    if (!file)
-        fail("no counts: not under callgrind");
-    while (fgets(line, sizeof line, file))
-        if (strncmp(line, "totals: ", 8) == 0)
-            count = strtod(line + 8, NULL);
-    fclose(file);
-    remove(path);
-    if (count < 0)
-        fail("no total in the counts");
-    return sum += count;
-}
-
-/* The processor time of this process, in nanoseconds: other work on the machine disturbs it less than the clock. Or the
-   instructions so far. */
-static double now(void)
-{
-    struct timespec t;
-    if (dumps)
-        return instructions();
-    clock_gettime(CLOCK_PROCESS_CPUTIME_ID, &t);
-    return (double)t.tv_sec * 1e9 + (double)t.tv_nsec;
-}
-
-static uint32_t draw(uint32_t *seed)
-{
-    *seed = *seed * 1664525 + 1013904223;
-    return *seed >> 16;
-}
 
 /* A triangle of some 90 samples with a little noise, at nine tenths of the range, or noise alone, large or small. */
 static void fill(int loud, int half)
@@ -194,34 +137,6 @@ static void fill(int loud, int half)
         resampler_put_sample(wave, i,
                              (int16_t)(loud ? noise : half ? noise / 256 : triangle * 7 / 8 + noise / 40));
     }
-}
-
-/* The times of one case: the best of each, and in each run the new one's over that of each. */
-struct times {
-    size_t runs;
-    double best[MAKERS], ratios[MAKERS][ROUNDS * RUNS];
-};
-
-static void add_run(struct times *times, const double *run)
-{
-    for (size_t i = 0; i < MAKERS; i++) {
-        if (times->runs == 0 || run[i] < times->best[i])
-            times->best[i] = run[i];
-        times->ratios[i][times->runs] = run[NEW] / run[i];
-    }
-    times->runs++;
-}
-
-static int order(const void *left, const void *right)
-{
-    double x = *(const double *)left, y = *(const double *)right;
-    return (x > y) - (x < y);
-}
-
-static double median(struct times *times, size_t maker)
-{
-    qsort(times->ratios[maker], times->runs, sizeof(double), order);
-    return times->ratios[maker][times->runs / 2];
 }
 
 /* A row of the table. A call is lent so many bytes of input and of output; `made` counts the outputs of all calls. */
@@ -323,7 +238,7 @@ static void time_row(struct row *row, int runs)
         double run[MAKERS];
         for (size_t i = 0; i < MAKERS; i++)
             run[i] = stream(&makers[i], row, outputs[i]);
-        add_run(&row->times, run);
+        add_run(&row->times, run, MAKERS);
     }
     compare_outputs();
 }
@@ -347,21 +262,8 @@ static void time_empty(struct times *times, int runs)
         double run[MAKERS];
         for (size_t i = 0; i < MAKERS; i++)
             run[i] = empty(&makers[i]);
-        add_run(times, run);
+        add_run(times, run, MAKERS);
     }
-}
-
-/* The end of a line of the table. */
-static void print_times(struct times *times, double made)
-{
-    const double *best = times->best;
-    if (FED > 1)
-        printf("%-8.2f %-8.2f %-8.2f %-8.2f %.2f\n", best[NEW] / made, best[PLAIN] / made, best[MAKERS - 1] / made,
-               median(times, PLAIN), median(times, MAKERS - 1));
-    else if (MAKERS > THIRD)
-        printf("%-8.2f %-6.2f %.2f\n", best[NEW] / made, median(times, PLAIN), median(times, MAKERS - 1));
-    else
-        printf("%-8.2f %-8.2f %.2f\n", best[NEW] / made, best[PLAIN] / made, best[NEW] / best[PLAIN]);
 }
 
 int main(int argc, char **argv)
@@ -387,7 +289,7 @@ int main(int argc, char **argv)
             time_row(&rows[i], runs);
         time_empty(&calls, runs);
     }
-    printf("kernel  block  word/2^32  %s\n", columns);
+    puts("kernel  block  word/2^32  " COLUMNS);
     for (struct row *row = rows; row < rows + count; row++) {
         printf("%-7u %-6zu %-10.1f ", (unsigned)row->kernel, row->block, row->ratio);
         print_times(&row->times, (double)row->made);

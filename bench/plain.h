@@ -1,5 +1,5 @@
-/* The converter in plain C, to compare speeds with: block feeding of 16-bit samples through one of four kernels. For
-   little-endian machines. */
+/* The converter in plain C, to compare speeds with: block feeding of 16-bit samples through one of four kernels, and
+   frame lines. For little-endian machines. */
 #ifndef PLAIN_H
 #define PLAIN_H
 
@@ -37,5 +37,11 @@ uint32_t plain_host_feed(uint8_t *image, size_t image_length, const uint8_t *inp
 /* And over lanes, as `resampler_feed_lanes`: one lane after another. */
 uint32_t plain_host_feed_lanes(uint8_t *image, size_t image_length, uint32_t lanes, const uint8_t *input,
                                size_t input_length, uint8_t *output, size_t output_length);
+
+/* D lines, as `resampler_write_data` and `resampler_read_data`, by tables of digits. */
+uint32_t plain_write_data(uint32_t sequence, const uint8_t *samples, size_t samples_length, uint8_t *line,
+                          size_t line_length);
+uint32_t plain_read_data(const uint8_t *line, size_t line_length, uint8_t *frame, size_t frame_length,
+                         uint8_t *samples, size_t samples_length);
 
 #endif

@@ -7,6 +7,9 @@
 
    Up to sixteen signals on one clock, called lanes, can have one image, of 224 bytes, and one feed.
 
+   On their way samples stand in frame lines, which are text: a K line has kernel, word and phase, a D line a number
+   and up to 64 samples. Two calls write such lines, and two read them.
+
    Samples and outputs are byte pairs: 16 bits in two's complement, the low byte first.
 
    Every call returns 0 or the number of a refusal. A refused call changes no byte of any buffer.
@@ -17,8 +20,8 @@
    ends.
 
    The library has no state of its own and allocates nothing. Several threads may call it at once, each on
-   images and output buffers of its own. What the calls do is proved; how arguments reach them is the compilers'
-   business, and the small functions at the end of this file are plain C.
+   images of its own, and with its own buffers to write to. What the calls do is proved; how arguments reach them is
+   the compilers' business, and the small functions at the end of this file are plain C.
 
    The guarantee. Take any list of feeds and retunes on one image, lent whole, from an accepted start, refused
    calls included, where nothing else changes the image in between. Refusal 5 does not occur in it. Each accepted
@@ -60,7 +63,7 @@ extern "C" {
 /* Sizes. */
 #define RESAMPLER_IMAGE_BYTES 40
 #define RESAMPLER_SAMPLE_BYTES 2
-#define RESAMPLER_LARGEST_BUFFER 65536 /* bytes of input, and of output, in one feed, of all lanes together */
+#define RESAMPLER_LARGEST_BUFFER 65536 /* bytes of input, of output, of samples in one call, of all lanes together */
 #define RESAMPLER_WINDOW 4             /* samples in an image, of each lane */
 #define RESAMPLER_MOST_LANES 16
 
@@ -87,16 +90,36 @@ extern "C" {
 #define RESAMPLER_HUNGRY 0
 #define RESAMPLER_FULL 1
 
-/* Refusals, as document 01 numbers them, and 13. This library returns 1 to 5, 12 and 13; the others belong to the
-   reader of frame lines.
+/* Frame lines. A line is a letter, digits 0-9, A-F and byte 10:
+       K, 1 digit kernel, 9 digits word, 8 digits phase
+       D, 8 digits sequence number, 2 digits count, 4 digits for each sample in two's complement, 2 digits check
+   Each two digits after D are a byte, and these bytes, check included, sum to 0 modulo 256. The length of a line
+   follows from its letter and count; byte 10 is counted. */
+#define RESAMPLER_MOST_SAMPLES 64                           /* samples in a D line; the fewest are 1 */
+#define RESAMPLER_START_LINE_BYTES 20                       /* a K line */
+#define RESAMPLER_DATA_LINE_BYTES(count) (14 + 4 * (count)) /* a D line with so many samples */
+#define RESAMPLER_LONGEST_LINE RESAMPLER_DATA_LINE_BYTES(RESAMPLER_MOST_SAMPLES) /* 270 */
+
+/* What a read leaves in `frame`. Its numbers have the low byte first. Of a D line: */
+#define RESAMPLER_AT_SEQUENCE 0 /* 4 bytes: sequence number */
+#define RESAMPLER_AT_COUNT 4    /* 4 bytes: samples in the line, 1 to 64 */
+#define RESAMPLER_DATA_FIELDS_BYTES 8
+/* Of a K line: */
+#define RESAMPLER_AT_START_KERNEL 0 /* 4 bytes: 0 to 3 */
+#define RESAMPLER_AT_START_PHASE 4  /* 4 bytes */
+#define RESAMPLER_AT_START_WORD 8   /* 8 bytes: 1 to 2^34 */
+#define RESAMPLER_START_FIELDS_BYTES 16
+
+/* Refusals, as document 01 numbers them, and 13 and 14. Those from 6 to 11 are of lines that are read, and 14 is of
+   lines that are written.
 
     1   kernel above 3
     2   ratio not finite, or below zero (minus zero is zero)
     3   output rate 0
     4   word 0 or above 2^34, after rounding
     5   state with kernel above 3, word outside 1..2^34 or needed count above 4; image not 40 bytes, for a start
-        or feed of lanes not 224, or bytes 2, 3 not zero
-    6   no byte 10 in the first 270 or in the slice
+        or feed of lanes not 224, or bytes 2, 3 not zero; `frame` not 8 bytes, for a K line not 16
+    6   no byte 10 in the first 270 bytes, or in those that were lent
     7   first letter not the one called for, or line empty
     8   another character than 0-9, A-F after the letter
     9   K: not 18 digits; D: under 12, count 0 or above 64, or not 12 + 4 times count
@@ -104,17 +127,25 @@ extern "C" {
    11   sample buffer shorter than the count
    12   host sample buffer of odd length or above 65,536 bytes
    13   lane count 0 or above 16; samples of input, or places of output, not a multiple of it
+   14   no samples to write, or above 64; line buffer shorter than the line
 
-   Where several apply a call returns the lowest, except that a retune tests 5 first. Whatever the refusal, every
-   buffer is left as it came. */
+   Where several apply a call returns the lowest, except that a retune tests 5 first, and a read of a K line 1 and 4
+   last. Whatever the refusal, every buffer is left as it came. */
 #define RESAMPLER_ACCEPTED 0
 #define RESAMPLER_BAD_KERNEL 1
 #define RESAMPLER_BAD_RATIO 2
 #define RESAMPLER_BAD_RATE 3
 #define RESAMPLER_BAD_WORD 4
-#define RESAMPLER_BAD_IMAGE 5
+#define RESAMPLER_BAD_IMAGE 5 /* or `frame` of another length */
+#define RESAMPLER_NO_LINE_END 6
+#define RESAMPLER_BAD_LETTER 7
+#define RESAMPLER_BAD_DIGIT 8
+#define RESAMPLER_BAD_LENGTH 9
+#define RESAMPLER_BAD_CHECK 10
+#define RESAMPLER_SHORT_BUFFER 11
 #define RESAMPLER_BAD_BUFFER 12
 #define RESAMPLER_BAD_LANES 13
+#define RESAMPLER_BAD_WRITE 14
 
 /* Starts. The kernel is 0 to 3. The first output stands phase / 2^32 of a sample past the first sample; any
    phase will do. The setting is a word, a ratio of the rates (input / output), or the two rates in whole hertz:
@@ -187,6 +218,39 @@ uint32_t resampler_feed(uint8_t *image, size_t image_length, const uint8_t *inpu
 uint32_t resampler_feed_lanes(uint8_t *image, size_t image_length, uint32_t lanes, const uint8_t *input,
                               size_t input_length, uint8_t *output, size_t output_length);
 
+/* Writes of lines. An accepted write puts the line at the front of `line`, and bytes past it keep their contents. How
+   long the line is follows from the arguments, by the names above. A line buffer has no largest length.
+
+   A D line is written from any sequence number and from 1 to 64 samples. Refusals, in this order: 12, if the length of
+   the samples is odd or above 65,536; 14, if there are none or more than 64, or if the buffer is shorter than the line.
+
+   A K line is written from a kernel, a word and any phase, as resampler_start_word has them. Refusals, in this order:
+   1; 4; 14, if the buffer is shorter than 20 bytes. */
+uint32_t resampler_write_data(uint32_t sequence, const uint8_t *samples, size_t samples_length, uint8_t *line,
+                              size_t line_length);
+uint32_t resampler_write_start(uint32_t kernel, uint64_t word, uint32_t phase, uint8_t *line, size_t line_length);
+
+/* Reads of lines. A read takes the line that `line` begins with, whatever follows it. An accepted read writes all of
+   `frame`. Of a D line the samples go to the first count pairs of `samples`, and bytes past them keep their contents;
+   what follows the line stands at resampler_after_data(line, frame). What follows a K line stands at
+   line + RESAMPLER_START_LINE_BYTES.
+
+   A host that reads from a stream gets 6 while a line is not whole. With fewer than 270 bytes lent more may come, and
+   the host reads again once it has; with 270 or more the line is refused for good.
+
+   What `frame` holds on entry is not looked at. Clear its 8 bytes before the first D line all the same, and keep them
+   as they are from line to line: a later version will take the last number from them, by the same signature.
+
+   There is one line for its fields: reading a written line returns its fields, and writing the fields of a read line
+   returns its bytes.
+
+   Refusals of a D line, in this order: 5, if `frame` is not 8 bytes long; 6 to 10; 11, if the length of `samples`,
+   halved and rounded down, is below the count; 12, if it is odd or above 65,536. Of a K line: 5, if `frame` is not 16
+   bytes long; 6 to 9; 1; 4. */
+uint32_t resampler_read_data(const uint8_t *line, size_t line_length, uint8_t *frame, size_t frame_length,
+                             uint8_t *samples, size_t samples_length);
+uint32_t resampler_read_start(const uint8_t *line, size_t line_length, uint8_t *frame, size_t frame_length);
+
 /* Each call is a macro of its own name too, so that #ifdef tells whether a header declares it. */
 #define resampler_start_word resampler_start_word
 #define resampler_start_ratio resampler_start_ratio
@@ -199,6 +263,10 @@ uint32_t resampler_feed_lanes(uint8_t *image, size_t image_length, uint32_t lane
 #define resampler_start_lanes_ratio resampler_start_lanes_ratio
 #define resampler_start_lanes_rates resampler_start_lanes_rates
 #define resampler_feed_lanes resampler_feed_lanes
+#define resampler_write_data resampler_write_data
+#define resampler_write_start resampler_write_start
+#define resampler_read_data resampler_read_data
+#define resampler_read_start resampler_read_start
 
 /* Four bytes as a number, the low byte first. */
 static inline uint32_t resampler_number(const uint8_t *at)
@@ -222,6 +290,32 @@ static inline size_t resampler_lane_window(size_t lane)
 {
     return lane == 0 ? RESAMPLER_AT_WINDOW
                      : RESAMPLER_AT_LANE_WINDOWS + (lane - 1) * RESAMPLER_WINDOW * RESAMPLER_SAMPLE_BYTES;
+}
+
+/* What a read of a D line left in `frame`, and where the part that follows the line begins. */
+static inline uint32_t resampler_sequence(const uint8_t *frame)
+{
+    return resampler_number(frame + RESAMPLER_AT_SEQUENCE);
+}
+static inline uint32_t resampler_count(const uint8_t *frame) { return resampler_number(frame + RESAMPLER_AT_COUNT); }
+static inline const uint8_t *resampler_after_data(const uint8_t *line, const uint8_t *frame)
+{
+    return line + RESAMPLER_DATA_LINE_BYTES(resampler_count(frame));
+}
+
+/* What a read of a K line left in `frame`. */
+static inline uint32_t resampler_line_kernel(const uint8_t *frame)
+{
+    return resampler_number(frame + RESAMPLER_AT_START_KERNEL);
+}
+static inline uint32_t resampler_line_phase(const uint8_t *frame)
+{
+    return resampler_number(frame + RESAMPLER_AT_START_PHASE);
+}
+static inline uint64_t resampler_line_word(const uint8_t *frame)
+{
+    const uint8_t *at = frame + RESAMPLER_AT_START_WORD;
+    return resampler_number(at) | (uint64_t)resampler_number(at + 4) << 32;
 }
 
 /* Sample `place` of a buffer, counted from 0. */

@@ -3,6 +3,7 @@
 #include "resampler.h"
 
 #include <stdio.h>
+#include <string.h>
 
 /* The calls as the library has them: another type in the header does not compile. */
 #ifdef __cplusplus
@@ -19,6 +20,10 @@ uint32_t resampler_start_lanes_word(uint8_t *, size_t, uint32_t, uint64_t, uint3
 uint32_t resampler_start_lanes_ratio(uint8_t *, size_t, uint32_t, double, uint32_t);
 uint32_t resampler_start_lanes_rates(uint8_t *, size_t, uint32_t, uint32_t, uint32_t, uint32_t);
 uint32_t resampler_feed_lanes(uint8_t *, size_t, uint32_t, const uint8_t *, size_t, uint8_t *, size_t);
+uint32_t resampler_write_data(uint32_t, const uint8_t *, size_t, uint8_t *, size_t);
+uint32_t resampler_write_start(uint32_t, uint64_t, uint32_t, uint8_t *, size_t);
+uint32_t resampler_read_data(const uint8_t *, size_t, uint8_t *, size_t, uint8_t *, size_t);
+uint32_t resampler_read_start(const uint8_t *, size_t, uint8_t *, size_t);
 #ifdef __cplusplus
 }
 #endif
@@ -27,13 +32,19 @@ uint32_t resampler_feed_lanes(uint8_t *, size_t, uint32_t, const uint8_t *, size
 #if !defined resampler_start_word || !defined resampler_start_ratio || !defined resampler_start_rates || \
     !defined resampler_retune_word || !defined resampler_retune_ratio || !defined resampler_retune_rates || \
     !defined resampler_feed || !defined resampler_start_lanes_word || !defined resampler_start_lanes_ratio || \
-    !defined resampler_start_lanes_rates || !defined resampler_feed_lanes
+    !defined resampler_start_lanes_rates || !defined resampler_feed_lanes || !defined resampler_write_data || \
+    !defined resampler_write_start || !defined resampler_read_data || !defined resampler_read_start
 #error "a call lacks its macro"
 #endif
 
 /* The image of lanes: a window of 8 bytes for each lane after lane 0, and a clip count of 4 for each. */
 #if RESAMPLER_LANES_BYTES != RESAMPLER_IMAGE_BYTES + 15 * 8 + 16 * 4 || RESAMPLER_MOST_LANES != 16
 #error "another image of lanes"
+#endif
+
+/* The longest line is a D line with 64 samples. */
+#if RESAMPLER_LONGEST_LINE != 270 || RESAMPLER_MOST_SAMPLES != 64
+#error "another longest line"
 #endif
 
 static int failed;
@@ -121,6 +132,44 @@ static void lanes(void)
     }
 }
 
+/* Lines of every count, one after another, with what the reads leave and what follows each; bytes past a line or past
+   the samples of one keep what they held. The sample at i is 259 i - 7 in every line. */
+static void lines(void)
+{
+    enum { MOST = RESAMPLER_MOST_SAMPLES, START = RESAMPLER_START_LINE_BYTES };
+    static uint8_t text[START + MOST * RESAMPLER_LONGEST_LINE], in[MOST * RESAMPLER_SAMPLE_BYTES];
+    static const char k_line[] = "K3212345678FEDCBA98\n";
+    uint8_t start[RESAMPLER_START_FIELDS_BYTES], frame[RESAMPLER_DATA_FIELDS_BYTES] = {0};
+    const uint8_t *line = text + START, *end = text + sizeof text;
+    size_t at = START;
+    memset(text, 0xEE, sizeof text);
+    for (int i = 0; i < MOST; i++)
+        resampler_put_sample(in, (size_t)i, (int16_t)(259 * i - 7));
+    check("K line", resampler_write_start(RESAMPLER_CUBIC, UINT64_C(0x212345678), 0xFEDCBA98, text, sizeof text) == 0);
+    check("its bytes", sizeof k_line == START + 1 && memcmp(text, k_line, START) == 0 && text[START] == 0xEE);
+    for (size_t n = 1; n <= MOST; n++) {
+        check("D line", resampler_write_data((uint32_t)(n * 0x3FFFFFF), in, 2 * n, text + at, sizeof text - at) == 0);
+        at += RESAMPLER_DATA_LINE_BYTES(n);
+        check("its end", text[at - 1] == 10 && text[at] == 0xEE);
+    }
+    check("first D line", memcmp(text + START, "D03FFFFFF01FFF907\n", RESAMPLER_DATA_LINE_BYTES(1)) == 0);
+    check("read of a K line", resampler_read_start(text, sizeof text, start, sizeof start) == 0);
+    check("kernel of a line", resampler_line_kernel(start) == 3);
+    check("phase of a line", resampler_line_phase(start) == 0xFEDCBA98);
+    check("word of a line", resampler_line_word(start) == UINT64_C(0x212345678));
+    for (size_t n = 1; n <= MOST; n++) {
+        uint8_t samples[sizeof in];
+        memset(samples, 0xEE, sizeof samples);
+        check("read of a D line",
+              resampler_read_data(line, (size_t)(end - line), frame, sizeof frame, samples, sizeof samples) == 0);
+        check("sequence number", resampler_sequence(frame) == n * 0x3FFFFFF);
+        check("count", resampler_count(frame) == n);
+        check("samples of a line", memcmp(samples, in, 2 * n) == 0 && (n == MOST || samples[2 * n] == 0xEE));
+        line = resampler_after_data(line, frame);
+    }
+    check("what follows the lines", line == text + at);
+}
+
 /* Every refusal by its name, and the limits on both sides. */
 static void refusals(void)
 {
@@ -163,6 +212,55 @@ static void lane_refusals(void)
     check("single feed", resampler_feed(image, n, in, 0, out, 0) == RESAMPLER_BAD_IMAGE);
 }
 
+/* A read of so many bytes that begin with a text, into buffers of these lengths; zeros follow the text. */
+static uint32_t read_text(const char *text, size_t length, size_t frame_length, size_t samples_length)
+{
+    static uint8_t line[RESAMPLER_LONGEST_LINE + 1], frame[RESAMPLER_START_FIELDS_BYTES];
+    static uint8_t samples[RESAMPLER_LARGEST_BUFFER + 2];
+    memset(line, '0', sizeof line);
+    memcpy(line, text, strlen(text));
+    return resampler_read_data(line, length, frame, frame_length, samples, samples_length);
+}
+
+/* The refusals of lines by their names, and the limits on both sides. */
+static void line_refusals(void)
+{
+    static const uint8_t in[RESAMPLER_LARGEST_BUFFER + 2] = {0};
+    static uint8_t line[RESAMPLER_LONGEST_LINE];
+    uint8_t frame[RESAMPLER_START_FIELDS_BYTES];
+    const char *good = "D00000000010001FE\n";
+    size_t n = RESAMPLER_DATA_LINE_BYTES(1), eight = RESAMPLER_DATA_FIELDS_BYTES, most = RESAMPLER_LARGEST_BUFFER;
+    size_t start = RESAMPLER_START_LINE_BYTES, longest = RESAMPLER_LONGEST_LINE;
+    uint64_t largest = RESAMPLER_LARGEST_WORD;
+    check("odd samples", resampler_write_data(0, in, 1, line, 0) == RESAMPLER_BAD_BUFFER);
+    check("samples", resampler_write_data(0, in, most + 2, line, longest) == RESAMPLER_BAD_BUFFER);
+    check("no samples", resampler_write_data(0, in, 0, line, longest) == RESAMPLER_BAD_WRITE);
+    check("65 samples", resampler_write_data(0, in, 130, line, longest) == RESAMPLER_BAD_WRITE);
+    check("short line buffer", resampler_write_data(0, in, 128, line, longest - 1) == RESAMPLER_BAD_WRITE);
+    check("longest line", resampler_write_data(0, in, 128, line, longest) == RESAMPLER_ACCEPTED);
+    check("kernel 4", resampler_write_start(RESAMPLER_CUBIC + 1, 0, 0, line, 0) == RESAMPLER_BAD_KERNEL);
+    check("word", resampler_write_start(RESAMPLER_CUBIC, largest + 1, 0, line, 0) == RESAMPLER_BAD_WORD);
+    check("short K line buffer", resampler_write_start(0, largest, 0, line, start - 1) == RESAMPLER_BAD_WRITE);
+    check("K line", resampler_write_start(0, largest, 0, line, start) == RESAMPLER_ACCEPTED);
+    check("fields of a K line", resampler_read_start(line, start, frame, eight) == RESAMPLER_BAD_IMAGE);
+    check("K line, cut", resampler_read_start(line, start - 1, frame, sizeof frame) == RESAMPLER_NO_LINE_END);
+    check("K line, read", resampler_read_start(line, start, frame, sizeof frame) == RESAMPLER_ACCEPTED);
+    line[1] = '4';
+    check("kernel 4, read", resampler_read_start(line, start, frame, sizeof frame) == RESAMPLER_BAD_KERNEL);
+    check("fields", read_text("", n, eight + 1, 2) == RESAMPLER_BAD_IMAGE);
+    check("cut", read_text(good, n - 1, eight, 2) == RESAMPLER_NO_LINE_END);
+    check("no end", read_text("", longest + 1, eight, 2) == RESAMPLER_NO_LINE_END);
+    check("letter", read_text("K\n", n, eight, 2) == RESAMPLER_BAD_LETTER);
+    check("digit", read_text("Da\n", n, eight, 2) == RESAMPLER_BAD_DIGIT);
+    check("length", read_text("D\n", n, eight, 2) == RESAMPLER_BAD_LENGTH);
+    check("check", read_text("D00000000010001FF\n", n, eight, 0) == RESAMPLER_BAD_CHECK);
+    check("short samples", read_text(good, n, eight, 1) == RESAMPLER_SHORT_BUFFER);
+    check("samples of odd length", read_text(good, n, eight, 3) == RESAMPLER_BAD_BUFFER);
+    check("long samples", read_text(good, n, eight, most + 2) == RESAMPLER_BAD_BUFFER);
+    check("read", read_text(good, n, eight, 2) == RESAMPLER_ACCEPTED);
+    check("most samples", read_text(good, longest + 1, eight, most) == RESAMPLER_ACCEPTED);
+}
+
 /* The names of the kernels, in document 01's order. */
 static void kernels(void)
 {
@@ -176,8 +274,10 @@ int main(void)
     samples();
     fields();
     lanes();
+    lines();
     refusals();
     lane_refusals();
+    line_refusals();
     kernels();
     return failed;
 }

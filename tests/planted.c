@@ -1,6 +1,6 @@
-/* A library with a mistake, which tests/drivers links in the place of the feeds to see whether the drivers tell it. The
-   mistake is named by the variable PLANTED. It is made in the third accepted feed that writes an output; a mistake of
-   lanes in the first accepted feed of lanes in which it shows. */
+/* A library with a mistake, which tests/drivers links in the place of the feeds, and of the calls for D lines, to see
+   whether the drivers tell it. The mistake is named by the variable PLANTED. It is made in the third accepted feed that
+   writes an output; a mistake of lanes or of lines in the first call in which it shows. */
 #include "resampler.h"
 
 #include <stdlib.h>
@@ -10,6 +10,10 @@ uint32_t __real_resampler_feed(uint8_t *, size_t, const uint8_t *, size_t, uint8
 uint32_t __wrap_resampler_feed(uint8_t *, size_t, const uint8_t *, size_t, uint8_t *, size_t);
 uint32_t __real_resampler_feed_lanes(uint8_t *, size_t, uint32_t, const uint8_t *, size_t, uint8_t *, size_t);
 uint32_t __wrap_resampler_feed_lanes(uint8_t *, size_t, uint32_t, const uint8_t *, size_t, uint8_t *, size_t);
+uint32_t __real_resampler_write_data(uint32_t, const uint8_t *, size_t, uint8_t *, size_t);
+uint32_t __wrap_resampler_write_data(uint32_t, const uint8_t *, size_t, uint8_t *, size_t);
+uint32_t __real_resampler_read_data(const uint8_t *, size_t, uint8_t *, size_t, uint8_t *, size_t);
+uint32_t __wrap_resampler_read_data(const uint8_t *, size_t, uint8_t *, size_t, uint8_t *, size_t);
 
 static int planted(const char *name)
 {
@@ -66,5 +70,34 @@ uint32_t __wrap_resampler_feed_lanes(uint8_t *image, size_t image_length, uint32
         keep(image, before, resampler_lane_window(1), WINDOW);
     }
     made = memcmp(image, right, sizeof right) != 0;
+    return result;
+}
+
+uint32_t __wrap_resampler_write_data(uint32_t sequence, const uint8_t *samples, size_t samples_length, uint8_t *line,
+                                     size_t line_length)
+{
+    static int made;
+    uint32_t result = __real_resampler_write_data(sequence, samples, samples_length, line, line_length);
+    size_t length = RESAMPLER_DATA_LINE_BYTES(samples_length / RESAMPLER_SAMPLE_BYTES);
+    if (result != 0 || made)
+        return result;
+    if (planted("line check") && line[length - 2] < '9') { /* off by one */
+        line[length - 2]++;
+        made = 1;
+    }
+    if (planted("line rest")) {
+        memset(line + length, 0, line_length - length);
+        made = line_length > length;
+    }
+    return result;
+}
+
+uint32_t __wrap_resampler_read_data(const uint8_t *line, size_t line_length, uint8_t *frame, size_t frame_length,
+                                    uint8_t *samples, size_t samples_length)
+{
+    static int made;
+    uint32_t result = __real_resampler_read_data(line, line_length, frame, frame_length, samples, samples_length);
+    if (planted("line fields") && result == RESAMPLER_BAD_CHECK && !made++) /* written, though the line is refused */
+        frame[RESAMPLER_AT_COUNT] ^= 1;
     return result;
 }

@@ -1,6 +1,7 @@
 //! The text format of host calls, by their table. vectors/README.md says what it is.
 
-use crate::host::{Answer, Call, Number, Role};
+use crate::frame_image;
+use crate::host::{self, Answer, Call, Number, Role};
 use crate::image::{self, Field};
 use crate::lane_image;
 use std::collections::BTreeMap;
@@ -8,7 +9,7 @@ use std::collections::BTreeMap;
 const WIDTH: usize = 108;
 const LONGEST_UNIT: usize = 32;
 
-/// What the call before left in the buffers that the host keeps, by name.
+/// What the call before left in the buffers, by name.
 pub type Left = BTreeMap<&'static str, Vec<u8>>;
 
 /// One call with its answer.
@@ -17,15 +18,17 @@ pub fn block(call: &Call, answer: &Answer, left: &Left) -> String {
     let buffers = call.row.buffers.iter().zip(call.buffers.iter().zip(&answer.buffers));
     for ((name, role), (before, _)) in buffers.clone() {
         text += &match left.get(name) {
-            Some(last) if *role == Role::Kept && last == before => format!("{name} last\n"),
-            _ => field(name, before),
+            Some(last) if host::may_be_last(name, *role) && last == before => {
+                format!("{name} last\n")
+            }
+            _ => field(name, "", before),
         };
     }
     text += &format!("result {}\n", answer.result);
     for ((name, _), (before, after)) in buffers.filter(|((_, role), _)| *role != Role::Read) {
         text += &match before == after {
             true => format!("{name}-after same\n"),
-            false => field(&format!("{name}-after"), after),
+            false => field(name, "-after", after),
         };
     }
     text
@@ -63,19 +66,28 @@ pub fn difference(call: &Call, expected: &Answer, found: &Answer) -> String {
 type Layout = (&'static str, usize, fn() -> Vec<Field>);
 
 /// Buffers with fields, by name and length.
-const LAYOUTS: &[Layout] =
-    &[("image", image::LENGTH, image::fields), ("image", lane_image::LENGTH, lane_image::fields)];
+const LAYOUTS: &[Layout] = &[
+    ("image", image::LENGTH, image::fields),
+    ("image", lane_image::LENGTH, lane_image::fields),
+    ("frame", frame_image::DATA, frame_image::data_fields),
+    ("frame", frame_image::START, frame_image::start_fields),
+];
+
+/// The fields of a buffer that has some.
+fn fields(name: &str, length: usize) -> Option<Vec<Field>> {
+    let layout = LAYOUTS.iter().find(|(of, long, _)| (*of, *long) == (name, length));
+    layout.map(|(_, _, fields)| fields())
+}
 
 /// The numbers in a buffer: what each is called, its place and its bytes. A buffer without fields
-/// has samples, or bytes where its length is odd.
+/// has samples; a line, and one of odd length, has bytes.
 fn numbers(name: &str, length: usize) -> Vec<(String, usize, usize)> {
-    let Some((_, _, fields)) = LAYOUTS.iter().find(|(of, long, _)| (*of, *long) == (name, length))
-    else {
-        let size = if length % 2 == 0 { 2 } else { 1 };
+    let Some(fields) = fields(name, length) else {
+        let size = if name == "line" || length % 2 == 1 { 1 } else { 2 };
         return (0..length / size).map(|i| (format!("{name} {i}"), i * size, size)).collect();
     };
     let mut numbers = Vec::new();
-    for (field, place, size, count) in fields() {
+    for (field, place, size, count) in fields {
         for i in 0..count {
             let title = if count == 1 { field.clone() } else { format!("{field} {i}") };
             numbers.push((title, place + i * size, size));
@@ -94,10 +106,10 @@ fn shown(bytes: &[u8]) -> String {
 }
 
 /// A buffer on a line of its own; a line that begins with a space goes on with the one before.
-fn field(name: &str, bytes: &[u8]) -> String {
-    let mut text = name.to_string();
+fn field(name: &str, ending: &str, bytes: &[u8]) -> String {
+    let mut text = format!("{name}{ending}");
     let mut width = text.len();
-    for part in parts(bytes) {
+    for part in parts(name, bytes) {
         if width + 1 + part.len() > WIDTH {
             text += "\n";
             width = 0;
@@ -109,14 +121,16 @@ fn field(name: &str, bytes: &[u8]) -> String {
     text + "\n"
 }
 
-/// The parts of a buffer: an image by its fields, any other with runs and up to 16 bytes a part.
-fn parts(bytes: &[u8]) -> Vec<String> {
+/// The parts of a buffer: one with fields by these, any other with runs and up to 16 bytes a part. A
+/// feed's input or output that is as long as an image is cut as one.
+fn parts(name: &str, bytes: &[u8]) -> Vec<String> {
     if bytes.is_empty() {
         return vec!["-".to_string()];
     }
-    if let Some((_, _, fields)) = LAYOUTS.iter().find(|(_, length, _)| *length == bytes.len()) {
+    let cut_as = if ["input", "output"].contains(&name) { "image" } else { name };
+    if let Some(fields) = fields(cut_as, bytes.len()) {
         let part = |(_, place, size, count): Field| digits(&bytes[place..place + size * count]);
-        return fields().into_iter().map(part).collect();
+        return fields.into_iter().map(part).collect();
     }
     let (mut parts, mut place, mut plain) = (Vec::new(), 0, 0);
     while place < bytes.len() {

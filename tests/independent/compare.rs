@@ -1,8 +1,9 @@
-//! The comparison of a library with the implementation and with the paper's run, over random chains
-//! of calls: on one converter, then on lanes.
+//! The comparison of a library with the implementation and with the paper's run: on frame lines, then
+//! over random chains of calls on one converter, then on lanes.
 
 use crate::calls::{self, Left};
 use crate::compare_lanes::{Counts, LANES};
+use crate::compare_lines;
 use crate::generate::{self, Start};
 use crate::halves;
 use crate::host::{self, Answer, Call, Row};
@@ -17,7 +18,7 @@ use crate::state::{Fed, State};
 use crate::tally::Tally;
 
 /// How much to compare: chains are made until both numbers are reached; on lanes a sixth of the
-/// calls is enough.
+/// calls is enough, and on lines half of them are drawn.
 pub struct Amount {
     pub outputs: u64,
     pub calls: u64,
@@ -30,9 +31,12 @@ pub fn run(amount: &Amount) -> Result<(), String> {
         kind: &ALONE,
         library: Library::new(),
         random: Random(amount.seed),
-        tally: Tally::over("calls", ALONE.has),
+        tally: Tally::over("line calls", compare_lines::has),
         counts: Counts::default(),
     };
+    compare_lines::run(&mut comparison, amount.calls / 2)?;
+    comparison.random = Random(amount.seed);
+    comparison.tally = Tally::over("calls", ALONE.has);
     comparison.halves()?;
     comparison.chains(amount.calls, amount.outputs)?;
     comparison.tally.complete()?;
@@ -72,7 +76,7 @@ pub struct Kind {
 }
 
 const ALONE: Kind = Kind {
-    has: |row| !(LANES.has)(row),
+    has: |row| !(LANES.has)(row) && !compare_lines::has(row),
     start: "start",
     retune: "retune",
     length: image::LENGTH,

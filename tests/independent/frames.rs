@@ -1,16 +1,35 @@
 //! The reader of frame lines. Document 01, "Frame lines".
 
 /// "ending in byte 10, which must be among the first 270 bytes"
-const LONGEST_LINE: usize = 270;
+pub const LONGEST_LINE: usize = 270;
+
+/// The bytes of a K line: letter, 18 digits and byte 10.
+pub const START_LENGTH: usize = 20;
+
+/// Those of a D line of so many samples: letter, "12 + 4 times count" digits and byte 10.
+pub fn data_length(count: usize) -> usize {
+    14 + 4 * count
+}
 
 /// The digits of a line's first letter on, and the bytes that follow the line.
 type Line<'a> = (Vec<u32>, &'a [u8]);
 
+/// "2 digits count (1 to 64)"
+pub const MOST_SAMPLES: usize = 64;
+
 /// The fields of a K line.
+#[derive(Clone, Copy, PartialEq, Eq)]
 pub struct Start {
     pub kernel: u32,
     pub word: u64,
     pub phase: u32,
+}
+
+/// Those of a D line; its count is that of the samples.
+#[derive(Clone, PartialEq, Eq)]
+pub struct Data {
+    pub sequence: u32,
+    pub samples: Vec<i16>,
 }
 
 /// Refusals 6, 7 and 8, which both kinds of line share.
@@ -51,13 +70,13 @@ pub fn read_k(bytes: &[u8]) -> Result<(Start, &[u8]), u32> {
 /// "`D`, 8 digits sequence number, 2 digits count (1 to 64), 4 digits for each sample in two's
 /// complement, 2 digits check. Each pair of digits after `D` is a byte; these bytes, check
 /// included, sum to 0 modulo 256."
-pub fn read_d(bytes: &[u8], room: usize) -> Result<(Vec<i16>, &[u8]), u32> {
+pub fn read_d(bytes: &[u8], room: usize) -> Result<(Data, &[u8]), u32> {
     let (digits, rest) = digits(bytes, b'D')?;
     if digits.len() < 12 {
         return Err(9);
     }
     let count = number(&digits[8..10]) as usize;
-    if count == 0 || count > 64 || digits.len() != 12 + 4 * count {
+    if count == 0 || count > MOST_SAMPLES || digits.len() != 12 + 4 * count {
         return Err(9);
     }
     if digits.chunks(2).map(number).sum::<u64>() % 256 != 0 {
@@ -67,5 +86,6 @@ pub fn read_d(bytes: &[u8], room: usize) -> Result<(Vec<i16>, &[u8]), u32> {
         return Err(11);
     }
     let sample = |four: &[u32]| number(four) as u16 as i16;
-    Ok((digits[10..10 + 4 * count].chunks(4).map(sample).collect(), rest))
+    let samples = digits[10..10 + 4 * count].chunks(4).map(sample).collect();
+    Ok((Data { sequence: number(&digits[..8]) as u32, samples }, rest))
 }

@@ -22,7 +22,7 @@ pub fn good_word(random: &mut Random) -> u64 {
     }
 }
 
-fn word(random: &mut Random) -> u64 {
+pub fn word(random: &mut Random) -> u64 {
     match random.below(6) {
         0 => random.pick(&[0, LARGEST_WORD + 1, LARGEST_WORD * 2, u64::MAX, 1 << 63, 1 << 35]),
         1 => random.next(),

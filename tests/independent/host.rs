@@ -1,9 +1,12 @@
 //! The host calls over bytes, by table: a call is its name, its numbers, the buffers that it is lent
 //! and which of them it may write, what it must answer, and how it is made in C.
 
+use crate::frame_image;
+use crate::frames::{self, Data, Start};
 use crate::image;
 use crate::lane_image;
 use crate::lanes;
+use crate::lines;
 use crate::settings::Setting;
 use crate::state;
 
@@ -53,6 +56,9 @@ use {Number::*, Role::*};
 
 const IMAGE: &[(&str, Role)] = &[("image", Kept)];
 const FEED: &[(&str, Role)] = &[("image", Kept), ("input", Read), ("output", Written)];
+const WRITE_DATA: &[(&str, Role)] = &[("samples", Read), ("line", Written)];
+const READ_DATA: &[(&str, Role)] = &[("line", Read), ("frame", Kept), ("samples", Written)];
+const READ_START: &[(&str, Role)] = &[("line", Read), ("frame", Kept)];
 
 /// A row: name, numbers, buffers, the answers to meet, what is accepted; and the call in C, each
 /// argument with its type, where n[i] is a number and b[i] a buffer.
@@ -131,6 +137,24 @@ rows! { |n, b|
         |call| retuned(call, rates(&call.numbers), front),
         resampler_retune_rates(b[0].at => *mut u8, front(b[0].length) => usize,
             n[0] as u32 => u32, n[1] as u32 => u32);
+    write_data, &[Whole], WRITE_DATA, &[0, 12, 14], data_written,
+        resampler_write_data(n[0] as u32 => u32, b[0].at => *const u8, b[0].length => usize,
+            b[1].at => *mut u8, b[1].length => usize);
+    write_start, &[Whole; 3], &[("line", Written)], &[0, 1, 4, 14], start_written,
+        resampler_write_start(n[0] as u32 => u32, n[1] => u64, n[2] as u32 => u32,
+            b[0].at => *mut u8, b[0].length => usize);
+    read_data, &[], READ_DATA, &[0, 5, 6, 7, 8, 9, 10, 11, 12], data_read,
+        resampler_read_data(b[0].at => *const u8, b[0].length => usize, b[1].at => *mut u8,
+            b[1].length => usize, b[2].at => *mut u8, b[2].length => usize);
+    read_start, &[], READ_START, &[0, 1, 4, 5, 6, 7, 8, 9], start_read,
+        resampler_read_start(b[0].at => *const u8, b[0].length => usize, b[1].at => *mut u8,
+            b[1].length => usize);
+}
+
+/// Whether `last` may stand for a buffer: it is kept by the host, or has what another call wrote.
+pub fn may_be_last(name: &str, role: Role) -> bool {
+    let written = |row: &Row| row.buffers.contains(&(name, Written));
+    role == Kept || role == Read && ROWS.iter().any(written)
 }
 
 /// A call of a row, by the row's name.
@@ -145,6 +169,22 @@ pub fn feed(image: Vec<u8>, input: Vec<u8>, output: Vec<u8>) -> Call {
 
 pub fn feed_lanes(image: Vec<u8>, count: u32, input: Vec<u8>, output: Vec<u8>) -> Call {
     call("feed_lanes", vec![count as u64], vec![image, input, output])
+}
+
+pub fn write_data(sequence: u32, samples: Vec<u8>, line: Vec<u8>) -> Call {
+    call("write_data", vec![sequence as u64], vec![samples, line])
+}
+
+pub fn write_start(start: &Start, line: Vec<u8>) -> Call {
+    call("write_start", vec![start.kernel as u64, start.word, start.phase as u64], vec![line])
+}
+
+pub fn read_data(line: Vec<u8>, frame: Vec<u8>, samples: Vec<u8>) -> Call {
+    call("read_data", Vec::new(), vec![line, frame, samples])
+}
+
+pub fn read_start(line: Vec<u8>, frame: Vec<u8>) -> Call {
+    call("read_start", Vec::new(), vec![line, frame])
 }
 
 /// A start by the form of the setting; the name is "start" or "start_lanes".
@@ -223,8 +263,15 @@ fn front(length: usize) -> usize {
     length.min(image::LENGTH)
 }
 
-/// "12: host sample buffer of odd length or above 65,536 bytes"
 pub const LARGEST_BUFFER: usize = 65536;
+
+/// "12: host sample buffer of odd length or above 65,536 bytes"
+fn check_samples(buffer: &[u8]) -> Result<(), u32> {
+    match buffer.len() % 2 == 1 || buffer.len() > LARGEST_BUFFER {
+        true => Err(12),
+        false => Ok(()),
+    }
+}
 
 /// "The host call feeds from an input buffer to an output buffer and, when accepted, writes the
 /// whole image anew; output bytes past those written keep their contents." Refusal 5 is that of
@@ -236,9 +283,8 @@ fn fed<T>(
 ) -> Result<Vec<Vec<u8>>, u32> {
     let [image, input, output] = &call.buffers[..] else { panic!("a feed has three buffers") };
     let state = decode(image)?;
-    if [input, output].iter().any(|buffer| buffer.len() % 2 == 1 || buffer.len() > LARGEST_BUFFER) {
-        return Err(12);
-    }
+    check_samples(input)?;
+    check_samples(output)?;
     let mut places = samples(output);
     let image = feed(state, &samples(input), &mut places)?;
     Ok(vec![image, input.clone(), bytes(&places)])
@@ -256,6 +302,62 @@ fn fed_lanes(call: &Call) -> Result<Vec<Vec<u8>>, u32> {
     fed(call, lane_image::decode, |lanes, input, output| {
         lanes::feed(lanes, count, input, output).map(|fed| lane_image::encode(&fed))
     })
+}
+
+/// Refusal 12, then 14; "The rest of the lent buffer is untouched."
+fn data_written(call: &Call) -> Result<Vec<Vec<u8>>, u32> {
+    let [samples, line] = &call.buffers[..] else { panic!("a write of data has two buffers") };
+    check_samples(samples)?;
+    let written = lines::write_data(&data_of(call), line.len())?;
+    Ok(vec![samples.clone(), over(written, line)])
+}
+
+/// Refusals 1, 4 and 14.
+fn start_written(call: &Call) -> Result<Vec<Vec<u8>>, u32> {
+    let line = &call.buffers[0];
+    Ok(vec![over(lines::write_start(&start_of(call), line.len())?, line)])
+}
+
+/// The fields that a write is given.
+pub fn data_of(write: &Call) -> Data {
+    Data { sequence: write.numbers[0] as u32, samples: samples(&write.buffers[0]) }
+}
+
+pub fn start_of(write: &Call) -> Start {
+    let [kernel, word, phase] = write.numbers[..] else { panic!("a K line has three numbers") };
+    Start { kernel: kernel as u32, word, phase: phase as u32 }
+}
+
+/// Refusal 5, "tested first as the lowest", is of the frame's length; then 6 to 11, those of the
+/// reader; then 12. What the frame holds is not looked at.
+fn data_read(call: &Call) -> Result<Vec<Vec<u8>>, u32> {
+    let [line, frame, places] = &call.buffers[..] else { panic!("a read of data has three") };
+    check_frame(frame, frame_image::DATA)?;
+    let (data, _) = frames::read_d(line, places.len() / 2)?;
+    check_samples(places)?;
+    let frame = frame_image::encode_data(&data);
+    Ok(vec![line.clone(), frame, over(bytes(&data.samples), places)])
+}
+
+/// Refusals 5, 6 to 9, then 1 and 4, which are the start's.
+fn start_read(call: &Call) -> Result<Vec<Vec<u8>>, u32> {
+    let [line, frame] = &call.buffers[..] else { panic!("a read of a start has two buffers") };
+    check_frame(frame, frame_image::START)?;
+    let (start, _) = frames::read_k(line)?;
+    state::start(start.kernel, Setting::Word(start.word), start.phase)?;
+    Ok(vec![line.clone(), frame_image::encode_start(&start)])
+}
+
+fn check_frame(frame: &[u8], length: usize) -> Result<(), u32> {
+    match frame.len() == length {
+        true => Ok(()),
+        false => Err(5),
+    }
+}
+
+/// A buffer with other bytes at its front.
+fn over(front: Vec<u8>, buffer: &[u8]) -> Vec<u8> {
+    [&front, &buffer[front.len()..]].concat()
 }
 
 /// "The host's samples are byte pairs, little-endian."

@@ -10,9 +10,14 @@ mod cases;
 mod compare;
 #[cfg(library)]
 mod compare_lanes;
+#[cfg(library)]
+mod compare_lines;
 mod draw;
+mod frame_image;
 mod frames;
 mod generate;
+#[cfg(library)]
+mod generate_lines;
 mod halves;
 mod host;
 mod image;
@@ -23,6 +28,7 @@ mod lane_runs;
 mod lanes;
 #[cfg(library)]
 mod library;
+mod lines;
 mod listings;
 mod oscillator;
 mod paper;

@@ -1,6 +1,8 @@
 //! The comparison of a program with the implementation's, over generated inputs.
 
+use crate::frames::{Data, Start};
 use crate::generate;
+use crate::lines;
 use crate::program;
 use crate::random::Random;
 use std::collections::BTreeMap;
@@ -107,7 +109,7 @@ fn program_outputs(input: &[u8]) -> usize {
 
 /// A K line and D lines that are accepted, but now and then for the kernel or the word.
 fn stream(random: &mut Random) -> Vec<u8> {
-    let kernel = if random.one_in(20) { random.below(16) } else { random.below(4) };
+    let kernel = if random.one_in(20) { random.below(16) } else { random.below(4) } as u32;
     let lines = random.below(12);
     let word = match random.below(20) {
         0 => random.next() & 0xfffffffff,
@@ -117,32 +119,23 @@ fn stream(random: &mut Random) -> Vec<u8> {
         _ => generate::good_word(random).max(1 << 27),
     };
     let phase = generate::phase(random);
-    let mut text = format!("K{kernel:X}{word:09X}{phase:08X}\n").into_bytes();
+    let start = Start { kernel, word, phase };
+    let mut text = lines::start_line(&start);
     for number in 0..lines {
         let any = 1 + random.below(64) as usize;
         let count = random.pick(&[1, 2, 3, 64, any]);
         let sequence = if random.one_in(2) { number as u32 } else { random.next() as u32 };
         let samples = generate::samples(random, count);
-        text.extend(data_line(sequence, &samples));
+        text.extend(lines::data_line(&Data { sequence, samples }));
     }
     match program_outputs(&text) > LARGEST {
-        true => format!("K{kernel:X}000000001{phase:08X}\n").into_bytes(),
+        true => lines::start_line(&Start { word: 1, ..start }),
         false => text,
     }
 }
 
-fn data_line(sequence: u32, samples: &[i16]) -> Vec<u8> {
-    let mut bytes = sequence.to_be_bytes().to_vec();
-    bytes.push(samples.len() as u8);
-    bytes.extend(samples.iter().flat_map(|sample| sample.to_be_bytes()));
-    let sum = bytes.iter().fold(0u8, |sum, &byte| sum.wrapping_add(byte));
-    bytes.push(sum.wrapping_neg());
-    let digits = bytes.iter().map(|byte| format!("{byte:02X}")).collect::<String>();
-    format!("D{digits}\n").into_bytes()
-}
-
 /// Changes, takes out, puts in or cuts off something.
-fn damage(random: &mut Random, input: &mut Vec<u8>) {
+pub fn damage(random: &mut Random, input: &mut Vec<u8>) {
     let place = random.below(input.len() as u64) as usize;
     let odd = [b'0', b'9', b'A', b'F', b'G', b'a', b'f', b' ', b'\r', b'\n', 0, 0xff, b'K', b'D'];
     match random.below(8) {

@@ -28,8 +28,8 @@ fn lines(input: &[u8], text: &mut String) -> Result<Totals, u32> {
     let mut state = state::start(start.kernel, Setting::Word(start.word), start.phase)?;
     let mut totals = Totals::default();
     while !rest.is_empty() {
-        let (samples, after) = frames::read_d(rest, 64)?;
-        state = convert(state, &samples, text, &mut totals)?;
+        let (data, after) = frames::read_d(rest, frames::MOST_SAMPLES)?;
+        state = convert(state, &data.samples, text, &mut totals)?;
         rest = after;
     }
     Ok(totals)

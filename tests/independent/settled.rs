@@ -1,6 +1,7 @@
 //! The settled examples of document 01, starred or not, the printed examples of the program, and
-//! what request U1 settles, run on the implementation before every command.
+//! what requests U1 and U2 settle, run on the implementation before every command.
 
+use crate::frames::Start;
 use crate::host;
 use crate::image;
 use crate::judge;
@@ -26,6 +27,7 @@ pub fn run() -> Result<usize, String> {
     examples.extend(empty_buffers());
     examples.extend(programs());
     examples.extend(lanes());
+    examples.extend(lines());
     examples.extend(facts());
     match examples.iter().find(|(_, holds)| !holds) {
         Some((name, _)) => Err(format!("settled example does not hold: {name}")),
@@ -173,6 +175,44 @@ fn lanes() -> Vec<Example> {
         ("lane count 16 and empty buffers", refused(0, 16, &[], 0) == 0),
         ("12 before 13", refused(0, 17, &[], 1) == 12),
         ("5 before 12 and 13", refused(4, 17, &[], 1) == 5),
+    ]
+}
+
+/// Request U2, with the lines of document 01's example.
+fn lines() -> Vec<Example> {
+    let (kernel_line, samples_line) = (b"K008000000000000000\n", b"D000000000300000064002871\n");
+    let samples = host::bytes(&[0, 100, 40]);
+    let data = |samples: &[u8], room| {
+        host::answer(&host::write_data(0, samples.to_vec(), vec![0xee; room]))
+    };
+    let start = |kernel, word, room| {
+        host::answer(&host::write_start(&Start { kernel, word, phase: 0 }, vec![0xee; room]))
+    };
+    let read = |line: &[u8], room| {
+        host::answer(&host::read_data(line.to_vec(), vec![0xee; 8], vec![0xee; room])).buffers
+    };
+    let counts = [0, 65].map(|count| data(&vec![0; 2 * count], 300).result);
+    let check = data(&host::bytes(&[-256]), 18).buffers.remove(1);
+    let (written, started) = (data(&samples, 28), start(0, HALF, 20));
+    let back = read(&written.buffers[1], 8);
+    vec![
+        ("the K line of the printed example is written", started.buffers[0] == kernel_line),
+        (
+            "its D line is written, and the rest of the buffer is untouched",
+            written.buffers[1] == [&samples_line[..], &[0xee; 2]].concat(),
+        ),
+        (
+            "the written line is read back",
+            back[1..] == [vec![0, 0, 0, 0, 3, 0, 0, 0], [&samples[..], &[0xee; 2]].concat()],
+        ),
+        ("it is written back", data(&back[2][..6], 26).buffers[1] == samples_line),
+        ("the check is 00 where the other bytes sum to 0", check == b"D0000000001FF0000\n"),
+        ("a buffer of one byte less: refusal 14", data(&samples, 25).result == 14),
+        ("no samples, and 65: refusal 14", counts == [14, 14]),
+        ("12 before 14", data(&[0], 0).result == 12),
+        ("a K line: 1 before 4 and 14", start(4, 0, 19).result == 1),
+        ("a K line: 4 before 14", start(0, 0, 19).result == 4),
+        ("a K line and 19 bytes: refusal 14", start(0, HALF, 19).result == 14),
     ]
 }
 

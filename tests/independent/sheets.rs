@@ -2,7 +2,7 @@
 //! must answer. So a person who adds a call writes its head and its buffers, and nothing else.
 
 use crate::calls::{self, Left};
-use crate::host::{self, Call, Number, Role, ROWS};
+use crate::host::{self, Call, Number, ROWS};
 use std::iter::Peekable;
 use std::vec::IntoIter;
 
@@ -59,7 +59,7 @@ fn read(head: &str, lines: &mut Lines, left: &Left) -> Result<Call, String> {
         let (_, line) = lines.next().unwrap_or_default();
         let text = line.strip_prefix(name).and_then(|text| text.strip_prefix(' '));
         let bytes = match text {
-            Some("last") if *role == Role::Kept => left.get(name).cloned(),
+            Some("last") if host::may_be_last(name, *role) => left.get(name).cloned(),
             Some(text) => bytes(text),
             None => None,
         };

@@ -81,13 +81,7 @@ impl Tally {
     }
 
     pub fn print(&self) {
-        println!("{} {} in {} chains, by answer:", self.total_calls(), self.title, self.chains);
-        let answers = self.calls.keys().map(|(_, answer)| *answer).collect::<BTreeSet<u32>>();
-        print_row("call", &answers);
-        for row in &self.rows {
-            let counts = answers.iter().map(|answer| self.calls.get(&(row.name, *answer)));
-            print_row(row.name, counts.map(|count| count.unwrap_or(&0)));
-        }
+        self.print_calls(&format!(" in {} chains", self.chains));
         println!("{} outputs, by kernel:", self.outputs);
         let distances = ["largest distance", "smallest margin"];
         print_row("kernel", COUNTED.iter().chain(&distances));
@@ -102,6 +96,17 @@ impl Tally {
         }
     }
 
+    /// How many calls of each kind were answered how; the text says where they were made.
+    pub fn print_calls(&self, made: &str) {
+        println!("{} {}{made}, by answer:", self.total_calls(), self.title);
+        let answers = self.calls.keys().map(|(_, answer)| *answer).collect::<BTreeSet<u32>>();
+        print_row("call", &answers);
+        for row in &self.rows {
+            let counts = answers.iter().map(|answer| self.calls.get(&(row.name, *answer)));
+            print_row(row.name, counts.map(|count| count.unwrap_or(&0)));
+        }
+    }
+
     fn of(&self, kernel: u8, what: &'static str) -> u64 {
         *self.counts.get(&(kernel, what)).unwrap_or(&0)
     }
@@ -109,12 +114,7 @@ impl Tally {
     /// A comparison that misses an answer of a call, or something that is counted of a kernel, says
     /// nothing. The linear kernel never clips: its value lies between its samples.
     pub fn complete(&self) -> Result<(), String> {
-        for row in &self.rows {
-            let met = |answer: &&u32| self.calls.contains_key(&(row.name, **answer));
-            if let Some(answer) = row.answers.iter().find(|answer| !met(answer)) {
-                return Err(format!("no {} was answered with {answer}: compare more", row.name));
-            }
-        }
+        self.answered()?;
         for (kernel, what) in (0..4).flat_map(|kernel| COUNTED.map(|what| (kernel, what))) {
             if (self.of(kernel, what) > 0) == ((kernel, what) == (0, "clips")) {
                 return Err(format!("kernel {kernel}, {what}: not as it has to be; compare more"));
@@ -122,6 +122,24 @@ impl Tally {
         }
         let (calls, title, outputs) = (self.total_calls(), self.title, self.outputs);
         println!("{calls} {title} agree, with {outputs} outputs; 0 differ");
+        Ok(())
+    }
+
+    /// The same of calls that have no outputs.
+    pub fn complete_calls(&self) -> Result<(), String> {
+        self.answered()?;
+        println!("{} {} agree; 0 differ", self.total_calls(), self.title);
+        Ok(())
+    }
+
+    /// Whether every call met each of its answers.
+    fn answered(&self) -> Result<(), String> {
+        for row in &self.rows {
+            let met = |answer: &&u32| self.calls.contains_key(&(row.name, **answer));
+            if let Some(answer) = row.answers.iter().find(|answer| !met(answer)) {
+                return Err(format!("no {} was answered with {answer}: compare more", row.name));
+            }
+        }
         Ok(())
     }
 }

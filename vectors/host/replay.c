@@ -33,6 +33,8 @@
 #define IMAGE 40                  /* bytes of an image */
 #define CLIPS (IMAGE + 15 * 8)    /* where the clip counts of an image of lanes begin */
 #define OF_LANES (CLIPS + 16 * 4) /* bytes of an image of lanes, which begins with an image */
+#define OF_DATA 8                 /* bytes of what is read of a D line */
+#define OF_START 16               /* bytes of what is read of a K line */
 
 static const char usage[] =
     "usage: replay [OPTION...] FILE...\n"
@@ -93,8 +95,8 @@ static const struct row undeclared = {"", NULL, "image*", NULL};
 
 /* The fields of a buffer, by its name and length; an image of lanes has those of an image too.
    Numbers have the low byte first. A buffer whose name is not here is told in samples if its length
-   is even. All others are told in bytes. A field that is shown stands beside the name of a call
-   that is lent several buffers, as it was lent. */
+   is even. All others are told in bytes; `line` has no length at which it has fields. A field that
+   is shown stands beside the name of a call that is lent several buffers, as it was lent. */
 struct field {
     const char *buffer;
     size_t length;
@@ -115,7 +117,10 @@ static const struct field fields[] = {
     {"image", IMAGE, "clips", 32, 4, 1, 0, 0}, {"image", IMAGE, "end", 36, 4, 1, 0, 0},
     {"image", OF_LANES, "lane 0 clips", CLIPS, 4, 1, 0, 0},
     LANE(1), LANE(2), LANE(3), LANE(4), LANE(5), LANE(6), LANE(7), LANE(8), LANE(9), LANE(10),
-    LANE(11), LANE(12), LANE(13), LANE(14), LANE(15)};
+    LANE(11), LANE(12), LANE(13), LANE(14), LANE(15),
+    {"frame", OF_DATA, "sequence", 0, 4, 1, 0, 0}, {"frame", OF_DATA, "count", 4, 4, 1, 0, 0},
+    {"frame", OF_START, "kernel", 0, 4, 1, 0, 0},  {"frame", OF_START, "phase", 4, 4, 1, 0, 0},
+    {"frame", OF_START, "word", 8, 8, 1, 0, 0},    {"line", 0, NULL, 0, 1, 0, 0, 0}};
 
 /* ---- where the driver stands ---- */
 
@@ -546,13 +551,16 @@ static void write_name(char *text, const struct field *field, size_t at)
         sprintf(text, "%.31s %lu", field->name != NULL ? field->name : field->buffer, index);
 }
 
-/* Writes a number in decimal, and its bits in hexadecimal. */
+/* Writes a number in decimal, a character of a line as it is, and the bits in hexadecimal. */
 static void write_number(char *text, const struct field *field, uint64_t bits)
 {
     uint64_t top = UINT64_C(1) << (8 * field->bytes - 1);
     int negative = field->is_signed && bits >= top;
-    sprintf(text, "%s%" PRIu64 " (%0*" PRIX64 ")", negative ? "-" : "",
-            negative ? top - (bits - top) : bits, (int)(2 * field->bytes), bits);
+    if (strcmp(field->buffer, "line") == 0 && bits > 32 && bits < 127)
+        sprintf(text, "%c (%02X)", (char)bits, (unsigned)bits);
+    else
+        sprintf(text, "%s%" PRIu64 " (%0*" PRIX64 ")", negative ? "-" : "",
+                negative ? top - (bits - top) : bits, (int)(2 * field->bytes), bits);
 }
 
 /* Adds to a text in so many bytes, and cuts it with .. where it does not fit. */

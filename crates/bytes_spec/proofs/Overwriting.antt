@@ -6,9 +6,9 @@ use native.Mathlib.Omega.{arith}
 use lib.IntN.{ℤ}
 use lib.ListN.{length, take, drop, length-append, length-drop}
 use lib.Seq.{take-append-seam, drop-append-seam, drop-append-add, drop-drop}
-use Rattle.bytes_spec.specs.Bytes.{samplesOf, pairsOf}
+use Rattle.bytes_spec.specs.Bytes.{samplesOf, AreSamples, pairsOf}
 use Rattle.bytes_spec.specs.Overwritten.{over}
-use Rattle.bytes_spec.proofs.Samples.{AreSamples, samples-append, samples-back, pairs-long, samples-pairs}
+use Rattle.bytes_spec.proofs.Samples.{samples-append, samples-back, pairs-long, samples-pairs}
 
 module _ {A : Type 0} (ys old : List A) where
   pub over-front : take (length ys) (over ys old) ≡ ys

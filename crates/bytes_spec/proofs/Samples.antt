@@ -9,13 +9,8 @@ use lib.Seq.{take-suc-set, drop-set-lt}
 use mir.Syntax.{w16}
 use mir.Val.{SFits}
 use Rattle.integers.specs.Sample.{signed, signed-fits, signed-bits, bits-signed, bits-below}
-use Rattle.bytes_spec.specs.Bytes.{Bytes, numberOf, bytesOf, samplesOf, pairOf, pairsOf}
+use Rattle.bytes_spec.specs.Bytes.{Bytes, numberOf, bytesOf, samplesOf, AreSamples, pairOf, pairsOf}
 use Rattle.bytes_spec.proofs.ByteNumbers.{number-bytes, bytes-number, bytes-below}
-
--- each is a sample: it has 16 bits
-unfoldable pub AreSamples : List ℤ → Type 0
-AreSamples [] = Unit {0}
-AreSamples (x ∷ xs) = SFits w16 x × AreSamples xs
 
 pub samples-long : (bs : List ℕ) → length (samplesOf bs) ≡ length bs / 2
 unfolding samplesOf
@@ -42,6 +37,12 @@ unfolding Bytes samplesOf AreSamples
 samples-are [] h = tt
 samples-are (a ∷ []) h = tt
 samples-are (a ∷ b ∷ bs) h = (signed-fits (bytes-below (a ∷ b ∷ []) (h .0, (h .1 .0, tt))), samples-are bs (h .1 .1))
+
+-- and so are they with one behind them
+pub samples-last : (xs : List ℤ) (x : ℤ) → AreSamples xs → SFits w16 x → AreSamples (xs ++ (x ∷ []))
+unfolding AreSamples
+samples-last [] x h f = (f, tt)
+samples-last (y ∷ xs) x h f = (h .0, samples-last xs x (h .1) f)
 
 samples-front : (bs : List ℕ) (n : ℕ) → samplesOf (take (n * 2) bs) ≡ take n (samplesOf bs)
 unfolding samplesOf

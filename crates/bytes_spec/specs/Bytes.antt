@@ -3,6 +3,8 @@ use mathlib.Core.List.{List, [], _∷_, flatMap}
 use Prim.Native.Nat.{ℕ, zero, suc, _+_, _*_, _/_, _%_, _<_}
 use lib.IntN.{ℤ}
 use lib.ListN.{take, drop}
+use mir.Syntax.{w16}
+use mir.Val.{SFits}
 use Rattle.integers.specs.Sample.{signed, bits}
 
 -- a list of bytes
@@ -30,6 +32,11 @@ unfoldable pub samplesOf : List ℕ → List ℤ
 samplesOf [] = []
 samplesOf (a ∷ []) = []
 samplesOf (a ∷ b ∷ bs) = signed (numberOf (a ∷ b ∷ [])) ∷ samplesOf bs
+
+-- each is a sample: it has 16 bits
+unfoldable pub AreSamples : List ℤ → Type 0
+AreSamples [] = Unit {0}
+AreSamples (x ∷ xs) = SFits w16 x × AreSamples xs
 
 -- the byte pair of a sample, and those of many
 abbrev pub pairOf : ℤ → List ℕ

@@ -1,7 +1,8 @@
-// Runs the settled examples of document 01 that are not starred, those on ratios and the one on empty buffers, then settings at the edges of the rules, and both calls of the readers
-// of lines, and prints what it finds, a line for each. The file `stdout` has what document 01 says. The starred examples are one theorem, of the crate `promises`.
+// Runs the settled examples of document 01 that are not starred, those on ratios and the one on empty buffers, then settings at the edges of the rules, both calls of the readers
+// of lines and their writers, and prints what it finds, a line for each. The file `stdout` has what document 01 says. The starred examples are one theorem, of the crate `promises`.
 use converter_spec::End;
 use converter_state::State;
+use frames_spec::WrittenLine;
 use libc::STDOUT_FILENO;
 use oscillator_spec::Setting;
 use oscillator_spec::WordAnswer;
@@ -171,6 +172,44 @@ fn start_lines() {
     start_line(b"K line, kernel 4", b"K4123456789FEDCBA98\nD");
 }
 
+// What a writer answered, and below it what the lent buffer holds.
+fn written(w: WrittenLine, line: &[u8]) {
+    number(b" bytes lent: refusal ", w.refusal as u64);
+    number(b", length ", w.length as u64);
+    io::write_all(STDOUT_FILENO, b"\n");
+    io::write_all(STDOUT_FILENO, line);
+    io::write_all(STDOUT_FILENO, b"\n");
+}
+
+// The D line of two samples, written.
+fn write_data(line: &mut [u8]) {
+    let samples = [-32768i16, 32767];
+    number(b"D line written, ", line.len() as u64);
+    let w = frames_write::write_data(4275878552, &samples, line);
+    written(w, line);
+}
+
+// The K line, written.
+fn write_start(line: &mut [u8]) {
+    number(b"K line written, ", line.len() as u64);
+    let w = frames_write::write_start(3, 4886718345, 4275878552, line);
+    written(w, line);
+}
+
+fn written_data() {
+    let mut short = [b'.'; 21];
+    write_data(&mut short);
+    let mut line = [b'.'; 23];
+    write_data(&mut line);
+}
+
+fn written_starts() {
+    let mut short = [b'.'; 19];
+    write_start(&mut short);
+    let mut line = [b'.'; 21];
+    write_start(&mut line);
+}
+
 fn main() {
     settled_ratios();
     settled_empty();
@@ -181,4 +220,6 @@ fn main() {
     short_buffer();
     long_buffer();
     start_lines();
+    written_data();
+    written_starts();
 }

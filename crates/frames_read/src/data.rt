@@ -1,6 +1,7 @@
 // D lines.
-use crate::digits::byte_sum;
 use crate::digits::number;
+use crate::digits::number_of_eight;
+use crate::digits::number_of_four;
 use crate::line::read_front;
 use crate::line::tail;
 use frames_spec::COUNT_LIMIT;
@@ -10,10 +11,10 @@ use frames_spec::FRAME_LENGTH;
 use frames_spec::SAMPLE_DIGITS;
 ghost use mathlib.Core.Path.{_≡_};
 ghost use mathlib.Core.Bool.{true};
-ghost use Prim.Native.Nat.{_+_, _*_, _≤_};
+ghost use Prim.Native.Nat.{_+_, _*_, _%_, _≤_};
 ghost use lib.ListN.{length};
 ghost use Rattle.bytes_spec.specs.Overwritten.{over};
-ghost use Rattle.frames_spec.specs.Line.{lineLimit, allDigits, rest, used};
+ghost use Rattle.frames_spec.specs.Line.{allDigits, byteSum, rest, used};
 ghost use Rattle.frames_spec.specs.Frame.{frameOf, frameSamples, dataLine, dataAnswer, DataRight};
 
 // Where byte 10 would stand in a D line without samples.
@@ -29,9 +30,9 @@ fn refused(refusal: u8) -> DataLine
     }
 }
 
-// What the digits of a D line hold, for a sample buffer with so much space.
-fn judge_digits(ds: &[u8], space: usize) -> DataLine
-    requires { ⌜ (length (now ds) + 2 ≤ lineLimit) × (allDigits (now ds) ≡ true) ⌝ }
+// What the digits of a D line hold, whose bytes have a sum, for a sample buffer with so much space.
+fn judge_digits(ds: &[u8], sum: u8, space: usize) -> DataLine
+    requires { ⌜ (sum ≡ byteSum (now ds) % 256) × (allDigits (now ds) ≡ true) ⌝ }
     ensures { λ r. ⌜ r ≡ dataAnswer (frameOf space (now (ds .entry))) ⌝ }
 {
     if ds.len() < FRAME_DIGITS {
@@ -47,13 +48,13 @@ fn judge_digits(ds: &[u8], space: usize) -> DataLine
     if ds.len() != FRAME_DIGITS + count * SAMPLE_DIGITS {
         return refused(9);
     }
-    if byte_sum(ds) % 256 != 0 {
+    if sum != 0 {
         return refused(10);
     }
     if space < count {
         return refused(11);
     }
-    let sequence = number(&ds[..8]) as u32;
+    let sequence = number_of_eight(&ds[..8]);
     DataLine {
         sequence: sequence,
         count: count,
@@ -70,7 +71,7 @@ fn judge(line: &[u8], space: usize) -> DataLine
         return refused(f.refusal);
     }
     let end = f.end;
-    judge_digits(&line[1..end], space)
+    judge_digits(&line[1..end], f.sum, space)
 }
 
 // Puts the samples of the digits of a D line at the front of the buffer.
@@ -81,8 +82,8 @@ fn fill(ds: &[u8], count: usize, samples: &mut [i16])
     let mut i: usize = 0;
     while i < count {
         let at = 10 + i * SAMPLE_DIGITS;
-        let v = number(&ds[at..at + SAMPLE_DIGITS]);
-        samples[i] = integers::signed(v as u16);
+        let v = number_of_four(&ds[at..at + SAMPLE_DIGITS]);
+        samples[i] = integers::signed(v);
         i += 1;
     }
 }

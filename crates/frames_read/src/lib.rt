@@ -6,6 +6,5 @@ mod start;
 
 pub use data::read_data;
 pub use data::rest_data;
-pub use digits::digit;
 pub use start::read_start;
 pub use start::rest_start;

@@ -1,23 +1,55 @@
 // What K and D lines share: where a line ends, its letter, and that digits follow.
-use crate::digits::all_digits;
+use crate::digits::BLOCK;
+use crate::digits::scan;
 use frames_spec::LINE_LIMIT;
 ghost use mathlib.Core.Path.{_≡_};
+ghost use mathlib.Core.Bool.{true};
 ghost use Prim.Native.Nat.{_+_, _≤_};
 ghost use lib.ListN.{length, take, drop};
 ghost use Rattle.frames_spec.specs.Line.{lineLimit, before10};
 ghost use Rattle.frames_read.specs.Front.{FrontRight};
 
-// The place of a line's byte 10, where the line is not refused with 6, 7 or 8.
+// The place of a line's byte 10, and the sum of its bytes modulo 256, where the line is not refused with 6, 7 or 8.
 pub struct Front {
     pub end: usize,
+    pub sum: u8,
     pub refusal: u8,
+}
+
+// True only where no byte is 10. It looks at all bytes, as `scan_pairs` does.
+fn none10(s: &[u8]) -> bool
+    ensures { λ r. ⌜ (r ≡ true → before10 (now (s .entry)) ≡ length (now (s .entry))) ⌝ }
+{
+    let mut found: u8 = 0;
+    let mut i: usize = 0;
+    while i < s.len() {
+        if s[i] == 10 {
+            found = 1;
+        }
+        i += 1;
+    }
+    found == 0
+}
+
+// How many bytes stand in the blocks before the one that has the first byte 10.
+fn blocks_before10(s: &[u8]) -> usize
+    ensures { λ r. ⌜ (before10 (now (s .entry)) ≡ r + before10 (drop r (now (s .entry)))) × (r ≤ length (now (s .entry))) ⌝ }
+{
+    let mut i: usize = 0;
+    while i + BLOCK <= s.len() {
+        if !none10(&s[i..i + BLOCK]) {
+            return i;
+        }
+        i += BLOCK;
+    }
+    i
 }
 
 // How many bytes stand before the first byte 10.
 fn find10(s: &[u8]) -> usize
     ensures { λ r. ⌜ (r ≡ before10 (now (s .entry))) × (r ≤ length (now (s .entry))) ⌝ }
 {
-    let mut i: usize = 0;
+    let mut i = blocks_before10(s);
     while i < s.len() {
         if s[i] == 10 {
             return i;
@@ -44,19 +76,37 @@ pub fn read_front(line: &[u8], letter: u8) -> Front
     let first = head(line);
     let end = find10(first);
     if end == first.len() {
-        return Front { end: 0, refusal: 6 };
+        return Front {
+            end: 0,
+            sum: 0,
+            refusal: 6,
+        };
     }
     if end == 0 {
-        return Front { end: 0, refusal: 7 };
+        return Front {
+            end: 0,
+            sum: 0,
+            refusal: 7,
+        };
     }
     if line[0] != letter {
-        return Front { end: 0, refusal: 7 };
+        return Front {
+            end: 0,
+            sum: 0,
+            refusal: 7,
+        };
     }
-    if !all_digits(&line[1..end]) {
-        return Front { end: 0, refusal: 8 };
+    let scanned = scan(&line[1..end]);
+    if scanned.worst >= 16 {
+        return Front {
+            end: 0,
+            sum: 0,
+            refusal: 8,
+        };
     }
     Front {
         end: end,
+        sum: scanned.sum,
         refusal: 0,
     }
 }

@@ -1,8 +1,8 @@
 -- Laws of D lines: which refusal the tests of the digits choose, the samples one by one, and what a line is that was read. Assumes nothing.
 use mathlib.Core.Path.{_≡_, refl, sym, ap, subst, _∙_}
-use mathlib.Core.Bool.{true, _&&_}
+use mathlib.Core.Bool.{Bool, true, false, _&&_}
 use mathlib.Core.List.{List, _++_, append-assoc}
-use Prim.Native.Nat.{ℕ, zero, suc, _+_, _-_, _*_, _%_, _≤_, _<_}
+use Prim.Native.Nat.{ℕ, zero, suc, _+_, _-_, _*_, _%_, _^_, _≤_, _<_}
 use native.Mathlib.Omega.{arith}
 use native.Mathlib.Numerals.{add-one}
 use borrow.Author.Tests.{leb-true, eqb-true, le-leb, eq-eqb}
@@ -11,11 +11,15 @@ use lib.IntN.{ℤ, pos}
 use lib.ListN.{length, take, drop, getD, set, length-append}
 use lib.Seq.{drop-cons, set-at, take-append-seam, drop-append-seam}
 use Rattle.integers.specs.Table.{both}
+use Rattle.integers.specs.Sample.{signed-fits}
+use Rattle.bytes_spec.specs.Bytes.{AreSamples}
+use Rattle.bytes_spec.proofs.Samples.{samples-last}
 use Rattle.frames_spec.specs.declared.answers.DataLine.{DataLine}
-use Rattle.frames_spec.specs.Line.{allDigits, byteSum, Read, read, refused, refuseUnless, lineEnd, lineDigits}
+use Rattle.frames_spec.specs.Line.{allDigits, byteSum, Read, read, refused, refuseUnless, andThen, lineEnd, lineDigits}
 use Rattle.frames_spec.specs.Frame.{Frame, sequenceOf, countOf, sampleAt, frameSamples, hasLength, checkHolds, frameOf, dataLine, dataAnswer, filled}
+use Rattle.frames_spec.specs.RoundTrips.{IsFrame}
 use Rattle.frames_spec.proofs.Lines.{between-part}
-use Rattle.frames_spec.proofs.Fronts.{refuses, passes, passed, Within, within-unless, within-then, front-within, line-read, refusalOf, was-read, refused-is, refusal-most}
+use Rattle.frames_spec.proofs.Fronts.{refuses, passes, passed, Within, within-unless, within-then, front-within, field-below, line-read, refusalOf, was-read, refused-is, refusal-most}
 
 -- ---- the digits
 -- what refusal 9 asks; that there are 12 digits or more follows
@@ -38,7 +42,7 @@ module _ (ds : List ℕ) where
   unfolding hasLength
   long-is h = rw (le-leb 12 (length ds) (omega arith), le-leb 1 (countOf ds) (h .0), le-leb (countOf ds) 64 (h .1), eq-eqb (length ds) (12 + countOf ds * 4) (h .2))
 
-  abbrev fields : Frame
+  abbrev pub fields : Frame
   fields = record { sequence = sequenceOf ds; samples = frameSamples (countOf ds) ds }
 
   module _ (space : ℕ) where
@@ -68,19 +72,28 @@ module _ (ds : List ℕ) where
         pub frame-read : countOf ds ≤ space → frameOf space ds ≡ read fields
         frame-read l = fits ∙ passes (leb (countOf ds) space) 11 (read fields) (le-leb (countOf ds) space l)
 
-    read-frame : (f : Frame) → frameOf space ds ≡ read f → Long ds × (countOf ds ≤ space) × (fields ≡ f)
-    unfolding frameOf
+    pub read-frame : (f : Frame) → frameOf space ds ≡ read f → Long ds × (countOf ds ≤ space) × (fields ≡ f) × (byteSum ds % 256 ≡ 0)
+    unfolding frameOf checkHolds
     read-frame f e =
         let a = passed (hasLength ds) 9 checked f e in
         let b = passed (checkHolds ds) 10 fitted f (a .1) in
         let d = passed (leb (countOf ds) space) 11 (read fields) f (b .1) in
-        (is-long (a .0), leb-true (countOf ds) space (d .0), (cc))
+        (is-long (a .0), leb-true (countOf ds) space (d .0), (cc), eqb-true (byteSum ds % 256) 0 (b .0))
 
     frame-within : Within 6 11 (frameOf space ds)
     unfolding frameOf
     frame-within =
         within-unless 6 11 (hasLength ds) 9 checked (omega arith) (omega arith)
         (within-unless 6 11 (checkHolds ds) 10 fitted (omega arith) (omega arith) (within-unless 6 11 (leb (countOf ds) space) 11 (read fields) (omega arith) (omega arith) tt))
+
+-- from 64 places on the space does not matter
+frame-enough : (ds : List ℕ) (n : ℕ) → 64 ≤ n → frameOf n ds ≡ frameOf 64 ds
+unfolding frameOf
+frame-enough ds n l = by-length (hasLength ds) (λ e. is-long ds e)
+  where
+    by-length : (t : Bool) → (t ≡ true → Long ds) → refuseUnless t 9 (checked ds n) ≡ refuseUnless t 9 (checked ds 64)
+    by-length true h = rw (le-leb (countOf ds) n (omega (arith, h refl)), le-leb (countOf ds) 64 (h refl .1))
+    by-length false h = refl
 
 -- ---- the samples
 pub samples-length : (n : ℕ) (ds : List ℕ) → length (frameSamples n ds) ≡ n
@@ -100,6 +113,7 @@ samples-step ds xs old i v l e w =
 pub record Framed (space : ℕ) (bs : List ℕ) (f : Frame) : Type 0 where
   pub size : suc (lineEnd bs) ≡ 14 + length (f .samples) * 4
   pub whole : suc (lineEnd bs) ≤ length bs
+  pub some : 1 ≤ length (f .samples)
   pub few : length (f .samples) ≤ 64
   pub fits : length (f .samples) ≤ space
   pub digits : allDigits (take (13 + length (f .samples) * 4 - 1) (drop 1 bs)) ≡ true
@@ -118,11 +132,43 @@ framed space bs f e =
     record {
       size = omega arith;
       whole = h .whole;
+      some = omega (arith, g .0);
       few = omega (arith, g .0);
       fits = omega (arith, g .1);
       digits = ap allDigits (sym part) ∙ h .digits;
       samples = rw (← part, n) (ap (λ (f : Frame). f .samples) (sym (g .2)));
     }
+
+-- what was read has its types: a number of 32 bits, samples of 16
+samples-typed : (n : ℕ) (ds : List ℕ) → allDigits ds ≡ true → AreSamples (frameSamples n ds)
+unfolding AreSamples frameSamples
+samples-typed zero ds e = tt
+samples-typed (suc n) ds e = samples-last (frameSamples n ds) (sampleAt ds n) (samples-typed n ds e) (signed-fits (field-below (10 + n * 4) 4 ds e))
+
+module _ (space : ℕ) (bs : List ℕ) (f : Frame) (e : dataLine space bs ≡ read f) where
+  digits-read : (ds : List ℕ) × (allDigits ds ≡ true) × (fields ds ≡ f)
+  unfolding dataLine
+  digits-read = let t = line-read 68 bs (frameOf space) f e in (t .0, t .1 .digits, read-frame (t .0) space f (t .2) .2)
+
+  pub read-sequence-below : f .sequence < 2 ^ 32
+  read-sequence-below = let t = digits-read in subst (λ (f : Frame). f .sequence < 2 ^ 32) (t .2) (field-below 0 8 (t .0) (t .1))
+
+  pub read-samples-are : AreSamples (f .samples)
+  read-samples-are = let t = digits-read in subst (λ (f : Frame). AreSamples (f .samples)) (t .2) (samples-typed (countOf (t .0)) (t .0) (t .1))
+
+  -- and it can be written
+  pub read-is-frame : IsFrame f
+  read-is-frame =
+      let g = framed space bs f e in
+      record { typed = record { sequence = read-sequence-below; samples = read-samples-are }; some = omega (arith, g .some); few = omega (arith, g .few) }
+
+pub space-enough : (n : ℕ) (bs : List ℕ) → 64 ≤ n → dataLine n bs ≡ dataLine 64 bs
+unfolding dataLine
+space-enough n bs l = by-digits (lineDigits 68 bs)
+  where
+    by-digits : (r : Read (List ℕ)) → andThen r (frameOf n) ≡ andThen r (frameOf 64)
+    by-digits (read ds) = frame-enough ds n l
+    by-digits (refused m) = refl
 
 data-within : (space : ℕ) (bs : List ℕ) → Within 6 11 (dataLine space bs)
 unfolding dataLine

@@ -1,18 +1,19 @@
 -- What K and D lines share: tests that refuse, fields of digits, the front of a line, and what the code's answers tell of a reading. Assumes nothing.
-use mathlib.Core.Path.{_≡_, refl, ap, _∙_}
+use mathlib.Core.Path.{_≡_, refl, sym, ap, _∙_}
 use mathlib.Core.Bool.{Bool, true, false}
-use mathlib.Core.List.{List, [], _∷_}
-use Prim.Native.Nat.{ℕ, suc, _+_, _-_, _*_, _^_, _≤_, _<_}
+use mathlib.Core.List.{List, [], _∷_, _++_}
+use Prim.Native.Nat.{ℕ, suc, _+_, _*_, _^_, _≤_, _<_}
 use native.Mathlib.Omega.{arith}
 use native.Mathlib.Nat.{pow-succ', pow-le-pow-right, mul-le-mul-right, zero-lt-suc}
-use borrow.Author.Tests.{ltb-true}
+use borrow.Author.Tests.{ltb-true, eqb-true}
 use lib.Dec.{ltb, eqb}
 use lib.ListN.{length, take, drop, length-take}
-use lib.Seq.{length-take-le}
+use lib.Seq.{length-take-le, take-suc}
 use Rattle.integers.specs.Table.{both}
 use Rattle.frames_spec.specs.Line.{digitValue, allDigits, numberAfter, field, Read, read, refused, refuseUnless, andThen, lineEnd, hasEnd, afterLetter, lineDigits, used, rest}
+use Rattle.frames_spec.specs.Written.{lineOf}
 use Rattle.frames_spec.proofs.Hex.{all-take, all-drop}
-use Rattle.frames_spec.proofs.Lines.{between}
+use Rattle.frames_spec.proofs.Lines.{end-byte, between}
 
 -- ---- one test: it refuses or lets pass, and what was read has passed it
 module _ {A : Type 0} where
@@ -80,36 +81,38 @@ field-below a n ds e =
     omega (arith, number-below 0 (take n (drop a ds)) (field-digits a n ds e))
 
 -- ---- the front of a line whose digits were read
--- where the digits stand
-pub record Fronted (bs ds : List ℕ) : Type 0 where
+-- where the digits stand, and the bytes of the line
+pub record Fronted (letter : ℕ) (bs ds : List ℕ) : Type 0 where
+  pub bytes : take (suc (lineEnd bs)) bs ≡ lineOf letter ds
   pub whole : lineEnd bs < length bs
   pub size : suc (length ds) ≡ lineEnd bs
   pub place : ds ≡ between (lineEnd bs) bs
   pub digits : allDigits ds ≡ true
 
-after-read : (letter : ℕ) (l ds : List ℕ) → afterLetter letter l ≡ read ds → (suc (length ds) ≡ length l) × (ds ≡ drop 1 l) × (allDigits ds ≡ true)
+after-read : (letter : ℕ) (l ds : List ℕ) → afterLetter letter l ≡ read ds → (suc (length ds) ≡ length l) × (ds ≡ drop 1 l) × (allDigits ds ≡ true) × (l ≡ letter ∷ ds)
 unfolding afterLetter
 after-read letter [] ds e = let z : _≡_ {A = ℕ} 0 1 = cc in absurd (omega arith)
 after-read letter (x ∷ l) ds e =
     let p = passed (eqb x letter) 7 (refuseUnless (allDigits l) 8 (read l)) ds e in
     let q = passed (allDigits l) 8 (read l) ds (p .1) in
     let s : ds ≡ l = cc in
-    (ap (λ (d : List ℕ). suc (length d)) s, s, ap allDigits s ∙ q .0)
+    (ap (λ (d : List ℕ). suc (length d)) s, s, ap allDigits s ∙ q .0, (λ i. eqb-true x letter (p .0) i ∷ sym s i))
 
-fronted : (letter : ℕ) (bs ds : List ℕ) → lineDigits letter bs ≡ read ds → Fronted bs ds
+fronted : (letter : ℕ) (bs ds : List ℕ) → lineDigits letter bs ≡ read ds → Fronted letter bs ds
 unfolding lineDigits hasEnd
 fronted letter bs ds e =
     let p = passed (ltb (lineEnd bs) (length (take 270 bs))) 6 (afterLetter letter (take (lineEnd bs) bs)) ds e in
     let q = after-read letter (take (lineEnd bs) bs) ds (p .1) in
-    let w : lineEnd bs < length bs = omega (arith, ltb-true (lineEnd bs) (length (take 270 bs)) (p .0), length-take 270 bs) in
-    record { whole = w; size = q .0 ∙ length-take-le (lineEnd bs) bs (omega arith); place = q .1; digits = q .2 }
+    let h = ltb-true (lineEnd bs) (length (take 270 bs)) (p .0) in
+    let w : lineEnd bs < length bs = omega (arith, h, length-take 270 bs) in
+    record { bytes = take-suc bs (lineEnd bs) 0 w ∙ (λ i. q .3 i ++ (end-byte bs h i ∷ [])); whole = w; size = q .0 ∙ length-take-le (lineEnd bs) bs (omega arith); place = q .1; digits = q .2 }
 
 -- what was read of a line was read of its digits
 pub line-read : {A : Type 0} (letter : ℕ) (bs : List ℕ) (follows : List ℕ → Read A) (a : A) → andThen (lineDigits letter bs) follows ≡ read a
-    → (ds : List ℕ) × Fronted bs ds × (follows ds ≡ read a)
+    → (ds : List ℕ) × Fronted letter bs ds × (follows ds ≡ read a)
 line-read letter bs follows a e = by-front (lineDigits letter bs) (fronted letter bs) e
   where
-    by-front : (r : Read (List ℕ)) → ((ds : List ℕ) → r ≡ read ds → Fronted bs ds) → andThen r follows ≡ read a → (ds : List ℕ) × Fronted bs ds × (follows ds ≡ read a)
+    by-front : (r : Read (List ℕ)) → ((ds : List ℕ) → r ≡ read ds → Fronted letter bs ds) → andThen r follows ≡ read a → (ds : List ℕ) × Fronted letter bs ds × (follows ds ≡ read a)
     by-front (read ds) h e = (ds, h ds refl, e)
     by-front (refused n) h e = let z : _≡_ {A = ℕ} 0 1 = cc in absurd (omega arith)
 

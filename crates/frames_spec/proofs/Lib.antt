@@ -1,7 +1,13 @@
+pub mod Examples
 pub mod Hex
+pub mod FourBytes
 pub mod WrittenText
+pub mod WrittenDigits
 pub mod Lines
+pub mod WrittenLines
 pub mod Fronts
 pub mod Frames
 pub mod Starts
-pub mod LineExamples
+pub mod TheOneLine
+pub mod Writes
+pub mod OneTrip

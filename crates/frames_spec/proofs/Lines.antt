@@ -1,16 +1,17 @@
 -- Laws of lines: where the byte 10 stands, where a line's digits stand, and which tests lead to which outcome. Assumes nothing.
-use mathlib.Core.Path.{_≡_, refl, _∙_}
+use mathlib.Core.Path.{_≡_, refl, sym, _∙_}
 use mathlib.Core.Bool.{Bool, true, false, cond}
-use mathlib.Core.List.{List, [], _∷_}
+use mathlib.Core.List.{List, [], _∷_, _++_}
 use Prim.Native.Nat.{ℕ, zero, suc, _+_, _-_, _≤_, _<_}
 use native.Mathlib.Numerals.{unary-clauses}
 use native.Mathlib.Omega.{arith}
-use borrow.Author.Tests.{eq-eqb, ne-eqb, lt-ltb, le-ltb, ltb-true}
-use lib.Dec.{eqb}
+use borrow.Author.Tests.{eq-eqb, ne-eqb, lt-ltb, le-ltb, ltb-true, eqb-true}
+use lib.Dec.{ltb, eqb}
 use lib.ListN.{length, take, drop, getD, length-take}
 use lib.Seq.{take-nil, getD-take}
-use Rattle.frames_spec.specs.Line.{read, refused, refuseUnless, before10, lineLimit, lineEnd, hasEnd, allDigits, afterLetter, lineDigits}
-use Rattle.frames_spec.proofs.Hex.{at-place}
+use Rattle.integers.specs.Table.{both}
+use Rattle.frames_spec.specs.Line.{read, refused, refuseUnless, before10, lineLimit, lineEnd, hasEnd, digitValue, allDigits, afterLetter, lineDigits}
+use Rattle.frames_spec.proofs.Hex.{value-under, at-place}
 
 -- ---- the byte 10
 pub end-le : (bs : List ℕ) → before10 bs ≤ length bs
@@ -22,6 +23,26 @@ end-le (b ∷ bs) = go (eqb b 10) (before10 bs) (end-le bs)
     go true n h = omega arith
     go false n h = omega arith
 
+-- where there is one, it is there
+end-is : (xs : List ℕ) → before10 xs < length xs → getD xs (before10 xs) 0 ≡ 10
+unfolding before10
+end-is [] h = absurd (omega arith)
+end-is (b ∷ xs) h = by-test (eqb b 10) refl (end-is xs) h
+  where
+    by-test : (t : Bool) → eqb b 10 ≡ t → (before10 xs < length xs → getD xs (before10 xs) 0 ≡ 10) → cond t 0 (suc (before10 xs)) < suc (length xs)
+        → getD (b ∷ xs) (cond t 0 (suc (before10 xs))) 0 ≡ 10
+    by-test true e f h = eqb-true b 10 e
+    by-test false e f h = f (omega arith)
+
+-- no digit is one
+pub end-after : (ds more : List ℕ) → allDigits ds ≡ true → before10 (ds ++ 10 ∷ more) ≡ length ds
+unfolding before10 allDigits
+end-after [] more e = refl
+end-after (b ∷ ds) more e =
+    let t = both (ltb (digitValue b) 16) (allDigits ds) e in
+    let n : b ≡ 10 → ⊥ = λ q. omega (arith, ltb-true (digitValue b) 16 (t .0), value-under b (omega (arith, q))) in
+    rw (ne-eqb b 10 n, end-after ds more (t .1))
+
 module _ (s : List ℕ) (i : ℕ) (h : i < length s) where
   pub end-here : getD s i 0 ≡ 10 → before10 (drop i s) ≡ 0
   unfolding before10
@@ -30,6 +51,18 @@ module _ (s : List ℕ) (i : ℕ) (h : i < length s) where
   pub end-later : (getD s i 0 ≡ 10 → ⊥) → before10 (drop i s) ≡ 1 + before10 (drop (i + 1) s)
   unfolding before10
   end-later n = rw (at-place s i h, ne-eqb (getD s i 0) 10 n) (omega arith)
+
+-- the first n are none
+pub end-past : (n : ℕ) (s : List ℕ) → n ≤ length s → before10 (take n s) ≡ n → before10 s ≡ n + before10 (drop n s)
+unfolding before10
+end-past zero s h e = omega arith
+end-past (suc n) [] h e = absurd (omega arith)
+end-past (suc n) (b ∷ s) h e = by-test (eqb b 10) (end-past n s (omega arith)) e
+  where
+    by-test : (t : Bool) → (before10 (take n s) ≡ n → before10 s ≡ n + before10 (drop n s)) → cond t 0 (suc (before10 (take n s))) ≡ suc n
+        → cond t 0 (suc (before10 s)) ≡ suc n + before10 (drop n s)
+    by-test true f e = absurd (omega arith)
+    by-test false f e = omega (arith, f (omega arith))
 
 -- ---- the bytes between the letter and place n
 abbrev pub between : ℕ → List ℕ → List ℕ
@@ -56,6 +89,11 @@ ends-within bs e =
     let l = ltb-true (lineEnd bs) _ e in
     let k = length-take lineLimit bs in
     (omega arith, omega arith)
+
+-- that byte
+pub end-byte : (bs : List ℕ) → lineEnd bs < length (take 270 bs) → getD bs (lineEnd bs) 0 ≡ 10
+unfolding lineEnd
+end-byte bs h = sym (getD-take 270 bs (lineEnd bs) 0 (omega (arith, length-take 270 bs))) ∙ end-is (take 270 bs) h
 
 before-le : (xs : List ℕ) (i : ℕ) → i < length xs → getD xs i 0 ≡ 10 → before10 xs ≤ i
 unfolding before10

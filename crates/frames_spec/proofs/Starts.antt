@@ -4,14 +4,16 @@ use mathlib.Core.Bool.{true, false}
 use mathlib.Core.List.{List}
 use Prim.Native.Nat.{ℕ, suc, _^_, _≤_, _<_}
 use native.Mathlib.Omega.{arith}
-use borrow.Author.Tests.{eqb-true, eq-eqb}
-use lib.Dec.{eqb}
+use borrow.Author.Tests.{leb-true, eqb-true, eq-eqb}
+use lib.Dec.{leb, eqb}
 use lib.ListN.{length}
+use Rattle.integers.specs.Table.{both}
 use Rattle.oscillator_spec.specs.Word.{isWord}
 use Rattle.converter_state.specs.Start.{isKernel}
 use Rattle.frames_spec.specs.declared.answers.StartLine.{StartLine}
 use Rattle.frames_spec.specs.Line.{Read, read, refused, refuseUnless, lineEnd, lineDigits}
 use Rattle.frames_spec.specs.StartLine.{Start, fieldsOf, startOf, startLine, startAnswer}
+use Rattle.frames_spec.specs.RoundTrips.{IsStart}
 use Rattle.frames_spec.proofs.Fronts.{refuses, passes, passed, Within, within-unless, within-then, front-within, field-below, line-read, refusalOf, was-read, refused-is, refusal-most}
 
 -- ---- the digits
@@ -41,7 +43,7 @@ module _ (ds : List ℕ) where
       pub start-read : isWord (fieldsOf ds .word) ≡ true → startOf ds ≡ read (fieldsOf ds)
       start-read w = sized ∙ rw (k, w)
 
-  read-start : (k : Start) → startOf ds ≡ read k → (length ds ≡ 18) × (isKernel (k .kernel) ≡ true) × (isWord (k .word) ≡ true) × (fieldsOf ds ≡ k)
+  pub read-start : (k : Start) → startOf ds ≡ read k → (length ds ≡ 18) × (isKernel (k .kernel) ≡ true) × (isWord (k .word) ≡ true) × (fieldsOf ds ≡ k)
   unfolding startOf
   read-start k e =
       let a = passed (eqb (length ds) 18) 9 formed k e in
@@ -79,6 +81,15 @@ begun bs k e =
       word = g .2;
       phase = subst (λ (s : Start). s .phase < 2 ^ 32) (g .3) (field-below 10 8 (t .0) (h .digits));
     }
+
+-- kernel, word and phase that can be written, by the tests
+pub is-start : (k : Start) → isKernel (k .kernel) ≡ true → isWord (k .word) ≡ true → k .phase < 2 ^ 32 → IsStart k
+unfolding isKernel isWord
+is-start k h w p =
+    let t = both (leb 1 (k .word)) (leb (k .word) (2 ^ 34)) w in
+    let least = leb-true 1 (k .word) (t .0) in
+    let most = leb-true (k .word) (2 ^ 34) (t .1) in
+    record { kernel = omega (arith, leb-true (k .kernel) 3 h); some = omega arith; word = omega arith; phase = p }
 
 line-within : (bs : List ℕ) → Within 1 9 (startLine bs)
 unfolding startLine

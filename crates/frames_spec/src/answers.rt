@@ -1,4 +1,4 @@
-// What the readers of lines answer. The functions stand in the crate `frames_read`.
+// What the readers and writers of lines answer. The functions stand in the crates `frames_read` and `frames_write`.
 
 // The fields of a D line; `count` samples are in the lent buffer. A refusal has its number, 6 to 11, and zeros.
 pub struct DataLine {
@@ -12,5 +12,11 @@ pub struct StartLine {
     pub kernel: u8,
     pub word: u64,
     pub phase: u32,
+    pub refusal: u8,
+}
+
+// How long the line is that was written at the front of the lent buffer. A refusal has its number, 1, 4 or 14, and a zero.
+pub struct WrittenLine {
+    pub length: usize,
     pub refusal: u8,
 }

@@ -1,4 +1,3 @@
-mod Counts
 mod PartByPart
 pub mod LaneLoop
 mod LanesWritten

@@ -3,7 +3,7 @@ use mathlib.Core.Path.{_≡_, refl, ap, _∙_}
 use mathlib.Core.Bool.{Bool, true, false, _&&_}
 use mathlib.Core.Logic.{_⊎_, inl, inr}
 use mathlib.Core.List.{List, _++_}
-use Prim.Native.Nat.{ℕ, _%_, _≤_}
+use Prim.Native.Nat.{ℕ, zero, suc, _%_, _≤_}
 use native.Mathlib.Omega.{arith}
 use borrow.Author.Tests.{leb-true, le-leb, eqb-true, eq-eqb, ne-eqb}
 use lib.Dec.{eqb}
@@ -16,12 +16,17 @@ use Rattle.converter_state.specs.Start.{started, retuned}
 use Rattle.converter_state.proofs.States.{retune-word}
 use Rattle.bytes_spec.specs.Bytes.{Bytes, bytesOf}
 use Rattle.host_spec.specs.Image.{wordPlace, windowPlace, imageOf, savedOf, stateIn, hasImageLength, isImage}
-use Rattle.host_spec.specs.Host.{accepting, reply, uncounted, hostStart, withState, hostRetune, isBuffer, feedReply, imageFed, outputFed, hostFeed}
+use Rattle.host_spec.specs.Host.{accepting, firstRefusal, reply, uncounted, hostStart, withState, hostRetune, isBuffer, feedReply, imageFed, outputFed, hostFeed}
 use Rattle.host_spec.proofs.Images.{is-image, word-bytes}
 
 -- a refusal leaves what was there
 pub keeps : (n : ℕ) (new old : List ℕ) → (n ≡ 0 → ⊥) → accepting n new old ≡ old
 keeps n new old h = rw (ne-eqb n 0 h)
+
+-- of two tests neither refused
+pub first-zeros : (n m : ℕ) → firstRefusal n m ≡ 0 → (n ≡ 0) × (m ≡ 0)
+first-zeros zero m z = (refl, z)
+first-zeros (suc n) m z = let e : suc n ≡ 0 = rw (ne-eqb (suc n) 0 (λ e. omega (arith, e))) at z in absurd (omega (arith, e))
 
 -- ---- start
 module _ (image : List ℕ) (k : ℕ) (a : Setting) (p : ℕ) where

@@ -1,8 +1,8 @@
 -- Laws of images: encode and decode undo each other, what refusal 5 asks of an image, and which bytes a new word changes. Assumes nothing.
 use mathlib.Core.Path.{_≡_, refl, sym, ap, subst, _∙_}
 use mathlib.Core.Bool.{true, _&&_}
-use mathlib.Core.List.{List, [], _∷_, _++_}
-use Prim.Native.Nat.{ℕ, zero, suc, _+_, _^_, _≤_, _<_}
+use mathlib.Core.List.{List, [], _++_}
+use Prim.Native.Nat.{ℕ, _+_, _^_, _<_}
 use native.Mathlib.Omega.{arith}
 use borrow.Author.Tests.{eqb-true, eq-eqb}
 use lib.Dec.{T, eqb, leb, lit≤}
@@ -12,11 +12,11 @@ use lib.Seq.{length-take-le, take-at, drop-at, drop-drop}
 use Rattle.integers.specs.Table.{both}
 use Rattle.converter_state.specs.Start.{stateOf, withWord, isState}
 use Rattle.host_spec.specs.declared.saved.Saved.{Saved}
-use Rattle.bytes_spec.specs.Bytes.{Bytes, numberOf, numberAt, bytesOf, samplesOf, pairsOf}
+use Rattle.bytes_spec.specs.Bytes.{Bytes, numberOf, numberAt, bytesOf, samplesOf, AreSamples, pairsOf}
 use Rattle.host_spec.specs.Image.{kernelPlace, neededPlace, zerosPlace, registerPlace, wordPlace, windowPlace, countsPlace, takenPlace, writtenPlace, clipsPlace, endPlace, imageLength, windowBytes, frontOf, countsOf, imageOf, savedOf, stateIn, hasImageLength, isImage}
 use Rattle.host_spec.specs.Host.{withState}
 use Rattle.bytes_spec.proofs.ByteNumbers.{bytes-append, bytes-take, bytes-drop, bytes-are, number-bytes, bytes-number, bytes-below}
-use Rattle.bytes_spec.proofs.Samples.{AreSamples, samples-long, samples-are, pairs-long, pairs-are, samples-pairs, pairs-samples}
+use Rattle.bytes_spec.proofs.Samples.{samples-long, samples-are, pairs-long, pairs-are, samples-pairs, pairs-samples}
 
 -- every field has room in its bytes
 pub record Fits (v : Saved) : Type 0 where

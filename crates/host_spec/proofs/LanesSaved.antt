@@ -12,9 +12,9 @@ use lib.Seq.{drop-at, drop-drop}
 use Rattle.oscillator_spec.specs.declared.settings.Setting.{Setting}
 use Rattle.oscillator_spec.specs.Word.{word, wordOf}
 use Rattle.bytes_spec.specs.Overwritten.{over}
-use Rattle.bytes_spec.specs.Bytes.{Bytes, numberOf, bytesOf, samplesOf, pairOf, pairsOf}
+use Rattle.bytes_spec.specs.Bytes.{Bytes, numberOf, bytesOf, samplesOf, AreSamples, pairOf, pairsOf}
 use Rattle.bytes_spec.proofs.ByteNumbers.{bytes-take, bytes-drop, bytes-number}
-use Rattle.bytes_spec.proofs.Samples.{AreSamples, samples-long, samples-append, samples-pairs, pairs-samples, pairs-long}
+use Rattle.bytes_spec.proofs.Samples.{samples-long, samples-append, samples-pairs, pairs-samples, pairs-long}
 use Rattle.integers.specs.Table.{both}
 use Rattle.converter_state.specs.declared.state.State.{State}
 use Rattle.converter_spec.specs.declared.feeding.Fed.{Fed}

@@ -11,3 +11,7 @@ pub mod ShownLanes
 pub mod LaneTraces
 pub mod LanesSaved
 pub mod LaneExamples
+pub mod HostLineLaws
+pub mod LineHostExamples
+pub mod LinesBack
+pub mod OneLineBack

@@ -2,9 +2,8 @@
 use mathlib.Core.Path.{_≡_, refl, sym, ap, _∙_}
 use mathlib.Core.Bool.{Bool, true, false, cond, _&&_, true≢false}
 use mathlib.Core.List.{List, [], _∷_, map}
-use Prim.Native.Nat.{ℕ, zero, suc, _/_, _^_, _≤_, _<_}
+use Prim.Native.Nat.{ℕ, _/_, _^_, _≤_, _<_}
 use native.Mathlib.Omega.{arith}
-use borrow.Author.Tests.{ne-eqb}
 use lib.IntN.{pos}
 use lib.ListN.{length}
 use mir.Syntax.{w16}
@@ -30,14 +29,14 @@ use Rattle.converter_spec.proofs.Traces.{Asked, call, calls, seen, seen-only}
 use Rattle.converter_spec.proofs.Traces as asked
 use Rattle.bytes_spec.specs.Overwritten.{over}
 use Rattle.host_spec.specs.declared.saved.Saved.{Saved}
-use Rattle.bytes_spec.specs.Bytes.{Bytes, numberOf, numberAt, bytesOf, samplesOf}
+use Rattle.bytes_spec.specs.Bytes.{Bytes, numberOf, numberAt, bytesOf, samplesOf, AreSamples}
 use Rattle.host_spec.specs.Image.{zerosPlace, frontOf, imageOf, savedOf, stateIn, hasImageLength, isImage}
-use Rattle.host_spec.specs.Host.{firstRefusal, Reply, withState, uncounted, hostStart, hostRetune, isBuffer, savedBy, feedReply, imageFed, outputFed, hostFeed}
+use Rattle.host_spec.specs.Host.{Reply, withState, uncounted, hostStart, hostRetune, isBuffer, savedBy, feedReply, imageFed, outputFed, hostFeed}
 use Rattle.host_spec.specs.Calls.{HostCall, feed, retune, HostMeets, imageAfter, SeenOn, isMade, madeOf, FeedShown, ShowsCall, Shows, CallsShown, OnTheState, HostThird}
-use Rattle.bytes_spec.proofs.Samples.{AreSamples, samples-long, samples-are}
+use Rattle.bytes_spec.proofs.Samples.{samples-long, samples-are}
 use Rattle.bytes_spec.proofs.Overwriting.{samples-over}
 use Rattle.host_spec.proofs.Images.{Fits, image-long, image-bytes, saved-image, saved-fits, is-image, image-is}
-use Rattle.host_spec.proofs.Hosts.{buffer-is, feed-odd, feed-done, retune-refused, retune-done}
+use Rattle.host_spec.proofs.Hosts.{first-zeros, buffer-is, feed-odd, feed-done, retune-refused, retune-done}
 use Rattle.host_spec.proofs.Windows.{Four, rule-four}
 
 -- ---- accepted images: bytes that refusal 5 lets through
@@ -244,14 +243,10 @@ shown-only {s} {cs} t u =
     ∙ sym (seen-only s (u .calls) (u .seen))
 
 -- ---- from an accepted start
-pub first-zero : (n m : ℕ) → firstRefusal n m ≡ 0 → n ≡ 0
-first-zero zero m z = refl
-first-zero (suc n) m z = rw (ne-eqb (suc n) 0 (λ e. omega (arith, e))) at z
-
 start-left : (image : List ℕ) (k : ℕ) (a : Setting) (P : ℕ) → hostStart image k a P .result ≡ 0
     → (started k a P .refusal ≡ 0) × (hostStart image k a P .image ≡ imageOf (uncounted (started k a P .state)))
 unfolding hostStart
-start-left image k a P z = (first-zero (started k a P .refusal) (cond (hasImageLength image) 0 5) z, rw z)
+start-left image k a P z = (first-zeros (started k a P .refusal) (cond (hasImageLength image) 0 5) z .0, rw z)
 
 pub start-fits : (k : ℕ) (a : Setting) (P : ℕ) → P < 2 ^ 32 → Accepted k a P → Fits (uncounted (started k a P .state))
 unfolding AreSamples

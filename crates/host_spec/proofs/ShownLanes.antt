@@ -36,8 +36,8 @@ use Rattle.host_spec.specs.LaneImage.{laneClipsPlace, lanesLength, windo
 use Rattle.host_spec.specs.LaneHost.{uncountedLanes, answerIn, lanesImageFed, hostStartLanes, hostFeedLanes}
 use Rattle.host_spec.specs.LaneCalls.{HostLaneCall, feed, retune, HostLanesMeets, lanesImageAfter, SeenOnLanes, isFeeding, Reaches, ReachesAll, hostCallOn, hostCallsOn, HostLanesThird}
 use Rattle.host_spec.proofs.Images.{is-image, image-bytes}
-use Rattle.host_spec.proofs.Hosts.{buffer-is, start-done, retune-refused, retuned-bytes}
-use Rattle.host_spec.proofs.ShownCalls.{Good, written-good, fed-good, step-retune, first-zero, start-fits, host-third}
+use Rattle.host_spec.proofs.Hosts.{first-zeros, buffer-is, start-done, retune-refused, retuned-bytes}
+use Rattle.host_spec.proofs.ShownCalls.{Good, written-good, fed-good, step-retune, start-fits, host-third}
 use Rattle.host_spec.proofs.LaneImages.{Sized, others-window, withClips, lane-written, written-first, written-length, is-lanes-image, lanes-image-is, lane-image-is, frontBytes, countsBytes, clipsBytes, parts-long, in-parts, inParts, Long, oneInParts, lane-parts, window-part, other-part}
 use Rattle.host_spec.proofs.LaneHosts.{lanes-odd, lanes-unparted, lanes-done}
 use Rattle.host_spec.proofs.LaneFeeds.{lane-fed, first-fed, fed-image-long}
@@ -263,7 +263,7 @@ seen-on-lane (c ∷ cs) image g h i m r = let t = step image c g (h .0) in go t 
 start-left : (image : List ℕ) (k : ℕ) (a : Setting) (P : ℕ) → hostStartLanes image k a P .result ≡ 0
     → (startedLanes k a P .refusal ≡ 0) × (hostStartLanes image k a P .image ≡ uncountedLanes (startedLanes k a P .lanes))
 unfolding hostStartLanes
-start-left image k a P z = (first-zero (startedLanes k a P .refusal) (cond (hasLanesLength image) 0 5) z, rw z)
+start-left image k a P z = (first-zeros (startedLanes k a P .refusal) (cond (hasLanesLength image) 0 5) z .0, rw z)
 
 module _ (k : ℕ) (a : Setting) (P : ℕ) (l : P < 2 ^ 32) (z : startedLanes k a P .refusal ≡ 0) where
   abbrev lanes : Lanes

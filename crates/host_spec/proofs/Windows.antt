@@ -1,5 +1,5 @@
 -- Laws of runs over samples: the window stays four samples, and every output is a sample. Assumes nothing.
-use mathlib.Core.List.{List, [], _∷_, _++_}
+use mathlib.Core.List.{List, [], _∷_}
 use mathlib.Core.Path.{_≡_}
 use Prim.Native.Nat.{ℕ}
 use native.Mathlib.Omega.{arith}
@@ -14,7 +14,8 @@ use Rattle.kernels_spec.proofs.Card.{output-fits}
 use Rattle.converter_state.specs.declared.state.State.{State}
 use Rattle.converter_spec.specs.Feeding.{outputNext, advanced, taking, rule}
 use Rattle.converter_spec.proofs.RuleSteps.{rule-ind}
-use Rattle.bytes_spec.proofs.Samples.{AreSamples}
+use Rattle.bytes_spec.specs.Bytes.{AreSamples}
+use Rattle.bytes_spec.proofs.Samples.{samples-last}
 
 -- a state whose window is four samples
 pub record Four (s : State) : Type 0 where
@@ -22,11 +23,6 @@ pub record Four (s : State) : Type 0 where
   pub window : AreSamples (s .window)
 
 -- ---- a sample taken comes last, and the oldest goes
-samples-last : (xs : List ℤ) (x : ℤ) → AreSamples xs → SFits w16 x → AreSamples (xs ++ (x ∷ []))
-unfolding AreSamples
-samples-last [] x h f = (f, tt)
-samples-last (y ∷ xs) x h f = (h .0, samples-last xs x (h .1) f)
-
 samples-rest : (xs : List ℤ) → AreSamples xs → AreSamples (drop 1 xs)
 unfolding AreSamples
 samples-rest [] h = tt

@@ -4,3 +4,5 @@ pub mod Calls
 pub mod LaneImage
 pub mod LaneHost
 pub mod LaneCalls
+pub mod HostLines
+pub mod HostRoundTrips

@@ -1,9 +1,10 @@
 // The lines that the program writes.
+use frames_write::digit;
+use frames_write::put_digits;
 ghost use mathlib.Core.Path.{_≡_};
 ghost use mathlib.Core.List.{_++_};
 ghost use Prim.Native.Nat.{_+_, _*_, _≤_, _<_};
 ghost use lib.ListN.{length, drop};
-ghost use Rattle.frames_spec.specs.Line.{digitsOf};
 ghost use Rattle.program_spec.specs.Program.{outputLine, outputLength, outputLines, endLine, endLength, refusalLine, refusalLength};
 
 // How long the line of an output, the last line of a run and the line of a refusal are: `outputLength`, `endLength`, `refusalLength`.
@@ -12,9 +13,6 @@ pub const OUTPUT_LENGTH: usize = 5;
 pub const END_LENGTH: usize = 34;
 
 pub const REFUSAL_LENGTH: usize = 4;
-
-// The digits of a count.
-const COUNT_DIGITS: usize = 16;
 
 // Where the count of clips and byte 10 stand in the last line of a run.
 const CLIPS_AT: usize = 17;
@@ -27,10 +25,10 @@ fn put_output(y: i16, text: &mut [u8])
     ensures { λ _. ⌜ now (text .exit) ≡ outputLine y ++ drop outputLength (now (text .entry)) ⌝ }
 {
     let v = integers::bits(y) as u64;
-    text[0] = frames_read::digit(v / 4096);
-    text[1] = frames_read::digit(v / 256);
-    text[2] = frames_read::digit(v / 16);
-    text[3] = frames_read::digit(v);
+    text[0] = digit(v / 4096);
+    text[1] = digit(v / 256);
+    text[2] = digit(v / 16);
+    text[3] = digit(v);
     text[4] = 10;
 }
 
@@ -46,28 +44,14 @@ pub fn put_outputs(ys: &[i16], text: &mut [u8])
     }
 }
 
-// Sixteen digits, at the front of the text.
-fn put_number(n: u64, text: &mut [u8])
-    requires { ⌜ 16 ≤ length (now text) ⌝ }
-    ensures { λ _. ⌜ now (text .exit) ≡ digitsOf 16 n ++ drop 16 (now (text .entry)) ⌝ }
-{
-    let mut left = n;
-    let mut i: usize = COUNT_DIGITS;
-    while i > 0 {
-        i -= 1;
-        text[i] = frames_read::digit(left);
-        left /= 16;
-    }
-}
-
 // The last line of a run, at the front of the text.
 pub fn put_end(outputs: u64, clips: u64, text: &mut [u8])
     requires { ⌜ endLength ≤ length (now text) ⌝ }
     ensures { λ _. ⌜ now (text .exit) ≡ endLine outputs clips ++ drop endLength (now (text .entry)) ⌝ }
 {
     text[0] = b'E';
-    put_number(outputs, &mut text[1..]);
-    put_number(clips, &mut text[CLIPS_AT..]);
+    put_digits(outputs, &mut text[1..CLIPS_AT]);
+    put_digits(clips, &mut text[CLIPS_AT..END_AT]);
     text[END_AT] = 10;
 }
 

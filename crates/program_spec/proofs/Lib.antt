@@ -9,3 +9,5 @@ pub mod TurnSizes
 pub mod TurnsGoOn
 pub mod Moving
 pub mod ProgramExamples
+pub mod Replayed
+pub mod ReplayExamples

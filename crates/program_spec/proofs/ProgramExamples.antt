@@ -21,11 +21,11 @@ zeros zero = []
 zeros (suc n) = 48 ∷ zeros n
 
 -- `K008`, n characters `0` and byte 10
-abbrev start : ℕ → List ℕ
+abbrev pub start : ℕ → List ℕ
 start n = 75 ∷ 48 ∷ 48 ∷ 56 ∷ (zeros n ++ (10 ∷ []))
 
 -- `D000000000300000064002871` and byte 10
-abbrev frame : List ℕ
+abbrev pub frame : List ℕ
 frame = 68 ∷ (zeros 9 ++ (51 ∷ (zeros 6 ++ (54 ∷ 52 ∷ 48 ∷ 48 ∷ 50 ∷ 56 ∷ 55 ∷ 49 ∷ 10 ∷ []))))
 
 -- "has one digit too few and prints `R09`"

@@ -1,3 +1,4 @@
 pub mod Program
 pub mod Turn
 pub mod WholeRun
+pub mod Replay

@@ -7,8 +7,12 @@ use Rattle.lanes_spec.proofs.OneLane.{only-that-lane}
 use Rattle.lanes_spec.proofs.LanesThird.{lanes-third}
 use Rattle.host_spec.proofs.ShownCalls.{on-the-state, host-third}
 use Rattle.host_spec.proofs.ShownLanes.{host-lanes-third}
+use Rattle.host_spec.proofs.LinesBack.{host-round-trips}
+use Rattle.frames_spec.proofs.TheOneLine.{the-one-line}
+use Rattle.frames_spec.proofs.Writes.{round-trips}
 use Rattle.program_spec.proofs.TurnByTurn.{whole-run}
 use Rattle.program_spec.proofs.TurnsGoOn.{turns-go-on}
+use Rattle.program_spec.proofs.Replayed.{replay}
 use Rattle.promises.specs.Promises.{Promises}
 use Rattle.promises.proofs.StarredExamples.{starred}
 
@@ -26,4 +30,8 @@ promises = record {
   only-that-lane = only-that-lane;
   lanes-third = lanes-third;
   host-lanes-third = host-lanes-third;
+  the-one-line = the-one-line;
+  round-trips = round-trips;
+  replay = replay;
+  host-round-trips = host-round-trips;
 }

@@ -6,7 +6,10 @@ use Rattle.lanes_spec.specs.LaneFeeding.{EachLaneAlone}
 use Rattle.lanes_spec.specs.LaneDemand.{OnlyThatLane, LanesThird}
 use Rattle.host_spec.specs.Calls.{OnTheState, HostThird}
 use Rattle.host_spec.specs.LaneCalls.{HostLanesThird}
+use Rattle.host_spec.specs.HostRoundTrips.{HostRoundTrips}
+use Rattle.frames_spec.specs.RoundTrips.{TheOneLine, RoundTrips}
 use Rattle.program_spec.specs.WholeRun.{WholeRun, TurnsGoOn}
+use Rattle.program_spec.specs.Replay.{Replay}
 use Rattle.promises.specs.Starred.{Starred}
 
 pub record Promises : Type 0 where
@@ -35,3 +38,11 @@ pub record Promises : Type 0 where
   pub lanes-third : LanesThird
   -- and for each lane of an image of lanes, over lists of host calls on it
   pub host-lanes-third : HostLanesThird
+  -- request U2: "From a sequence number and samples, write the one line that the reader accepts with those fields"; "A K line can be written too"
+  pub the-one-line : TheOneLine
+  -- request U2: "With buffers long enough, reading a written line returns its fields, and writing the fields of a read line returns its bytes", of any reader and writer that meet their contracts
+  pub round-trips : RoundTrips
+  -- request U2: "Replay stations need recorded samples put out as D lines": the program reads what is written, and its outputs are those of the samples
+  pub replay : Replay
+  -- the round trips of request U2 for the host, byte for byte
+  pub host-round-trips : HostRoundTrips

@@ -4,11 +4,16 @@ use host::retune_by;
 use host::start_by;
 use host_lanes::feed_lane_buffers;
 use host_lanes::start_lanes_by;
+use host_lines::read_data_line;
+use host_lines::read_start_line;
+use host_lines::write_data_line;
+use host_lines::write_start_line;
 use oscillator_spec::Setting;
 ghost use mathlib.Core.Path.{_≡_};
 ghost use Rattle.oscillator_spec.specs.declared.settings.Setting.the-variants as setting;
 ghost use Rattle.host_spec.specs.Host.{reply, feedReply, hostStart, hostRetune, hostFeed};
 ghost use Rattle.host_spec.specs.LaneHost.{hostStartLanes, hostFeedLanes};
+ghost use Rattle.host_spec.specs.HostLines.{writeReply, readReply, startReply, hostWriteData, hostWriteStart, hostReadData, hostReadStart};
 
 // Feeds the samples of the input, and writes outputs and the whole image.
 #[no_mangle]
@@ -128,4 +133,36 @@ pub extern "C" fn resampler_start_lanes_rates(
     ensures { λ r. ⌜ reply r (now (image .exit)) ≡ hostStartLanes (now (image .entry)) kernel (setting.Rates fin fout) phase ⌝ }
 {
     start_lanes_by(image, kernel, Setting::Rates(fin, fout), phase)
+}
+
+// Writes a D line at the front of the line buffer, from a sequence number and samples.
+#[no_mangle]
+pub extern "C" fn resampler_write_data(sequence: u32, samples: &[u8], line: &mut [u8]) -> u32
+    ensures { λ r. ⌜ writeReply r (now (line .exit)) ≡ hostWriteData sequence (now (samples .entry)) (now (line .entry)) ⌝ }
+{
+    write_data_line(sequence, samples, line)
+}
+
+// Writes a K line at the front of the line buffer.
+#[no_mangle]
+pub extern "C" fn resampler_write_start(kernel: u32, word: u64, phase: u32, line: &mut [u8]) -> u32
+    ensures { λ r. ⌜ writeReply r (now (line .exit)) ≡ hostWriteStart kernel word phase (now (line .entry)) ⌝ }
+{
+    write_start_line(kernel, word, phase, line)
+}
+
+// Reads the D line that the bytes begin with: its number and its count to `frame`, its samples to the first byte pairs of `samples`.
+#[no_mangle]
+pub extern "C" fn resampler_read_data(line: &[u8], frame: &mut [u8], samples: &mut [u8]) -> u32
+    ensures { λ r. ⌜ readReply r (now (frame .exit)) (now (samples .exit)) ≡ hostReadData (now (line .entry)) (now (frame .entry)) (now (samples .entry)) ⌝ }
+{
+    read_data_line(line, frame, samples)
+}
+
+// Reads the K line that the bytes begin with: its kernel, phase and word to `frame`.
+#[no_mangle]
+pub extern "C" fn resampler_read_start(line: &[u8], frame: &mut [u8]) -> u32
+    ensures { λ r. ⌜ startReply r (now (frame .exit)) ≡ hostReadStart (now (line .entry)) (now (frame .entry)) ⌝ }
+{
+    read_start_line(line, frame)
 }

@@ -3,6 +3,8 @@ mod calls;
 
 pub use calls::resampler_feed;
 pub use calls::resampler_feed_lanes;
+pub use calls::resampler_read_data;
+pub use calls::resampler_read_start;
 pub use calls::resampler_retune_rates;
 pub use calls::resampler_retune_ratio;
 pub use calls::resampler_retune_word;
@@ -12,3 +14,5 @@ pub use calls::resampler_start_lanes_word;
 pub use calls::resampler_start_rates;
 pub use calls::resampler_start_ratio;
 pub use calls::resampler_start_word;
+pub use calls::resampler_write_data;
+pub use calls::resampler_write_start;

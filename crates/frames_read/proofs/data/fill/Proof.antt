@@ -5,12 +5,13 @@ use mathlib.Core.List.{_++_}
 use Prim.Native.Nat.{ℕ, _+_, _-_, _*_, _≤_}
 use native.Mathlib.Omega.{arith}
 use mir.Facts.{toZ-ofZ}
-use lib.ListN.{length, take, drop, length-set}
+use lib.ListN.{length, take, drop, length-drop, length-set}
+use lib.Seq.{length-take-le}
 use denote.Ref.{now}
 use Rattle.integers.specs.Sample.{signed}
 use Rattle.frames_spec.specs.Line.{number, field}
 use Rattle.frames_spec.specs.Frame.{frameSamples}
-use Rattle.frames_spec.proofs.Fronts.{field-right, field-below}
+use Rattle.frames_spec.proofs.Fronts.{field-right}
 use Rattle.frames_spec.proofs.Frames.{samples-length, samples-step}
 use Rattle.frames_read.proofs.data.fill.Statement.{statement}
 use Rattle.frames_read.proofs.data.fill.Tie as tie
@@ -21,12 +22,12 @@ Inv-loop ds count samples₀ i₀ samples i = (i ≤ count) × (length samples �
 abbrev μ-loop : tie.MeasureT-loop
 μ-loop ds count samples₀ i₀ samples i = count - i
 
--- the part lent to `number` has four digits, and the number is the field's
+-- the part lent to `number_of_four` has four digits, and the number is the field's
 four : (i : ℕ) → 10 + i * 4 + 4 - (10 + i * 4) ≡ 4
 four i = omega arith
 
-sampled : (c : tie.After-number Inv-loop μ-loop) → let h = c .before .before .before in c .number .result ≡ field (10 + h .loop .i * 4) 4 (now (h .before .before .args .ds))
-sampled c = let h = c .before .before .before in c .number .ensures .0 ∙ ap (λ (n : ℕ). number (take n (drop (10 + h .loop .i * 4) (now (h .before .before .args .ds))))) (four (h .loop .i))
+sampled : (c : tie.After-number-of-four Inv-loop μ-loop) → let h = c .before .before .before in c .number-of-four .result ≡ field (10 + h .loop .i * 4) 4 (now (h .before .before .args .ds))
+sampled c = let h = c .before .before .before in c .number-of-four .ensures ∙ ap (λ (n : ℕ). number (take n (drop (10 + h .loop .i * 4) (now (h .before .before .args .ds))))) (four (h .loop .i))
 
 loop-holds : tie.Need-loop-holds Inv-loop μ-loop
 unfolding frameSamples
@@ -38,23 +39,24 @@ mul-at c = search needs
 add-at : tie.Need-add-at Inv-loop μ-loop
 add-at c = search needs
 
-add-number : tie.Need-add-number Inv-loop μ-loop
-add-number c = search needs
+add-number-of-four : tie.Need-add-number-of-four Inv-loop μ-loop
+add-number-of-four c = search needs
 
-sub-number : tie.Need-sub-number Inv-loop μ-loop
-sub-number c = search needs
+sub-number-of-four : tie.Need-sub-number-of-four Inv-loop μ-loop
+sub-number-of-four c = search needs
 
-part-number-start : tie.Need-part-number-start Inv-loop μ-loop
-part-number-start c = search needs
+part-number-of-four-start : tie.Need-part-number-of-four-start Inv-loop μ-loop
+part-number-of-four-start c = search needs
 
-part-number-end : tie.Need-part-number-end Inv-loop μ-loop
-part-number-end c = search needs
+part-number-of-four-end : tie.Need-part-number-of-four-end Inv-loop μ-loop
+part-number-of-four-end c = search needs
 
-number-requires : tie.Need-number-requires Inv-loop μ-loop
-number-requires c κs = let h = c .before .before in rw (four (h .loop .i)) (field-right (10 + h .loop .i * 4) 4 _ (omega arith) (h .before .before .pre .1))
-
-cast-signed : tie.Need-cast-signed Inv-loop μ-loop
-cast-signed c = let h = c .before .before .before in omega (arith, sampled c, field-below (10 + h .loop .i * 4) 4 _ (h .before .before .pre .1))
+number-of-four-requires : tie.Need-number-of-four-requires Inv-loop μ-loop
+number-of-four-requires c κs =
+    let h = c .before .before in
+    let a = 10 + h .loop .i * 4 in
+    let ds = now (h .before .before .args .ds) in
+    rw (four (h .loop .i)) (length-take-le 4 (drop a ds) (simp length-drop (omega arith)), field-right a 4 ds (omega arith) (h .before .before .pre .1) .1)
 
 signed-requires : tie.Need-signed-requires Inv-loop μ-loop
 signed-requires c κs = search needs
@@ -99,12 +101,11 @@ fill-spec =
     loop-holds
     mul-at
     add-at
-    add-number
-    sub-number
-    part-number-start
-    part-number-end
-    number-requires
-    cast-signed
+    add-number-of-four
+    sub-number-of-four
+    part-number-of-four-start
+    part-number-of-four-end
+    number-of-four-requires
     signed-requires
     mul-t8
     slice-set-from-samples

@@ -1,13 +1,10 @@
 -- `frames_read::data::judge` meets its contract. Assumes nothing.
 use borrow.Author.Needs.{needs}
 use mathlib.Core.Path.{sym, ap, _∙_}
-use Prim.Native.Nat.{_-_}
-use native.Mathlib.Omega.{arith}
-use lib.ListN.{drop, length-take}
 use denote.Ref.{now}
 use Rattle.frames_spec.specs.Line.{lineDigits}
 use Rattle.frames_spec.specs.Frame.{frameOf, dataLine, dataAnswer}
-use Rattle.frames_read.proofs.Lent.{front-refused, front-follows, Lent, front-lent}
+use Rattle.frames_read.proofs.Lent.{front-refused, front-follows, front-sum, Lent, front-lent}
 use Rattle.frames_read.proofs.data.judge.Statement.{statement}
 use Rattle.frames_read.proofs.data.judge.Tie as tie
 
@@ -39,7 +36,7 @@ judge-digits-requires : tie.Need-judge-digits-requires
 judge-digits-requires c κs =
     let z = c .before .before .before in
     let t = lent (c .before) in
-    (omega (arith, length-take (z .read-front .result .end - 1) (drop 1 (now (z .before .before .args .line)))), t .digits)
+    (front-sum _ _ (lineDigits 68 _) (z .read-front .ensures) (c .before .if1 .left), t .digits)
 
 returns-2 : tie.Need-returns-2
 unfolding dataLine

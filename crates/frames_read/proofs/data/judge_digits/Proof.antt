@@ -1,13 +1,14 @@
 -- `frames_read::data::judge_digits` meets its contract. Assumes nothing.
 use borrow.Author.Needs.{needs}
 use mathlib.Core.Path.{_≡_, sym, ap, _∙_}
-use Prim.Native.Nat.{ℕ, _%_}
+use Prim.Native.Nat.{_%_}
 use native.Mathlib.Omega.{arith}
 use lib.Seq.{length-take-le}
 use denote.Ref.{now}
 use Rattle.frames_spec.specs.Line.{byteSum}
 use Rattle.frames_spec.specs.Frame.{countOf, dataAnswer}
-use Rattle.frames_spec.proofs.Fronts.{field-right, field-below}
+use Rattle.frames_spec.proofs.Hex.{all-take}
+use Rattle.frames_spec.proofs.Fronts.{field-right}
 use Rattle.frames_spec.proofs.Frames.{Long, frame-9, frame-10, frame-11, frame-read, samples-length}
 use Rattle.frames_read.proofs.data.judge_digits.Statement.{statement}
 use Rattle.frames_read.proofs.data.judge_digits.Tie as tie
@@ -19,8 +20,8 @@ entry c = c .before .before .before .before .before .before .before
 long : (c : tie.Else4) → Long (now (entry c .args .ds))
 long c = let n = c .before .before .before .number .ensures .0 in (omega arith, omega arith, omega arith)
 
-summed : (c : tie.Else5) → byteSum (now (entry (c .before .before) .args .ds)) % 256 ≡ 0
-summed c = ap (λ (s : ℕ). s % 256) (sym (c .before .byte-sum .ensures)) ∙ c .if5 .left
+summed : (c : tie.Else5) → byteSum (now (entry (c .before) .args .ds)) % 256 ≡ 0
+summed c = sym (entry (c .before) .pre .0) ∙ c .if5 .left
 
 refused-requires : tie.Need-refused-requires
 refused-requires c κs = search needs
@@ -64,38 +65,35 @@ refused-requires-4 c κs = search needs
 returns-4 : tie.Need-returns-4
 returns-4 c = c .refused4 .ensures ∙ ap dataAnswer (sym (frame-9 _ _ (λ h. c .before .if4 .taken (omega (arith, c .before .before .before .before .number .ensures .0)))))
 
-byte-sum-requires : tie.Need-byte-sum-requires
-byte-sum-requires c κs = search needs
-
 refused-requires-5 : tie.Need-refused-requires-5
 refused-requires-5 c κs = search needs
 
 returns-5 : tie.Need-returns-5
 returns-5 c =
-    c .refused5 .ensures ∙ ap dataAnswer (sym (frame-10 _ _ (long (c .before .before .before)) (λ e. c .before .if5 .taken (ap (λ (s : ℕ). s % 256) (c .before .before .byte-sum .ensures) ∙ e))))
+    let z = c .before .before in
+    c .refused5 .ensures ∙ ap dataAnswer (sym (frame-10 _ _ (long z) (λ e. c .before .if5 .taken (entry z .pre .0 ∙ e))))
 
 refused-requires-6 : tie.Need-refused-requires-6
 refused-requires-6 c κs = search needs
 
 returns-6 : tie.Need-returns-6
 returns-6 c =
-    let z = c .before .before .before .before in
+    let z = c .before .before .before in
     c .refused6 .ensures ∙ ap dataAnswer (sym (frame-11 _ _ (long z) (summed (c .before .before)) (omega (arith, z .before .before .before .number .ensures .0, c .before .if6 .taken))))
 
-slice-aggregate-number : tie.Need-slice-aggregate-number
-slice-aggregate-number c = sym (length-take-le 8 (now (entry (c .before .before .before .before) .args .ds)) (omega arith))
+slice-aggregate-number-of-eight : tie.Need-slice-aggregate-number-of-eight
+slice-aggregate-number-of-eight c = sym (length-take-le 8 (now (entry (c .before .before .before) .args .ds)) (omega arith))
 
-number-requires-2 : tie.Need-number-requires-2
-number-requires-2 c κs = field-right 0 8 _ (omega arith) (entry (c .before .before .before .before) .pre .1)
-
-cast-sequence : tie.Need-cast-sequence
-cast-sequence c = omega (arith, c .number2 .ensures .0, field-below 0 8 _ (entry (c .before .before .before .before .before) .pre .1))
+number-of-eight-requires : tie.Need-number-of-eight-requires
+number-of-eight-requires c κs =
+    let s = entry (c .before .before .before) in
+    (length-take-le 8 (now (s .args .ds)) (omega arith), all-take 8 (now (s .args .ds)) (s .pre .1))
 
 returns-7 : tie.Need-returns-7
 returns-7 c =
-    let z = c .before .before .before .before .before in
+    let z = c .before .before .before .before in
     let ds = now (entry z .args .ds) in
-    let q = c .number2 .ensures .0 in
+    let q = c .number-of-eight .ensures in
     let n = z .before .before .before .number .ensures .0 in
     let k = n ∙ sym (samples-length (countOf ds) ds) in
     (λ i. record { sequence = q i; count = k i; refusal = 0 }) ∙ ap dataAnswer (sym (frame-read ds _ (long z) (summed (c .before .before .before)) (omega arith)))
@@ -118,12 +116,10 @@ judge-digits-spec =
     add-if4
     refused-requires-4
     returns-4
-    byte-sum-requires
     refused-requires-5
     returns-5
     refused-requires-6
     returns-6
-    slice-aggregate-number
-    number-requires-2
-    cast-sequence
+    slice-aggregate-number-of-eight
+    number-of-eight-requires
     returns-7)

@@ -44,11 +44,10 @@ loop-again c =
     let h = c .before .before .before in
     let i = h .loop .i in
     let s = h .before .before .args .s .now in
-    let l : i < length s = omega arith in
-    let d = digit-at s i (h .before .before .pre .1) l in (
+    let l : i < length s = omega arith in (
       search needs,
-      h .loop .inv .1 ∙ number-step s i l (h .loop .n) ∙ rw (c .known-value .ensures),
-      digit-more i (h .loop .n) (c .known-value .result) (h .loop .inv .2) (omega (arith, d)),
+      h .loop .inv .1 ∙ number-step s i l (h .loop .n) ∙ rw (c .known-value .ensures .0),
+      digit-more i (h .loop .n) (c .known-value .result) (h .loop .inv .2) (c .known-value .ensures .1),
     )
 
 returns : tie.Need-returns Inv-loop μ-loop

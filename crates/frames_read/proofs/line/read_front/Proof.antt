@@ -1,13 +1,14 @@
 -- `frames_read::line::read_front` meets its contract: each return cites the outcome that the tests before it lead to. Assumes nothing.
 use borrow.Author.Needs.{needs}
-use borrow.Author.Tests.{not-true, not-false}
+use borrow.Author.Tests.{lt-ltb, le-ltb}
 use mathlib.Core.Path.{_≡_, refl, sym, ap, _∙_}
 use mathlib.Core.List.{List}
-use Prim.Native.Nat.{ℕ, _<_}
+use Prim.Native.Nat.{ℕ, _%_, _<_}
 use native.Mathlib.Omega.{arith}
+use lib.Dec.{ltb}
 use lib.ListN.{length, take}
 use denote.Ref.{now}
-use Rattle.frames_spec.specs.Line.{before10, lineEnd, allDigits}
+use Rattle.frames_spec.specs.Line.{before10, lineEnd, allDigits, byteSum}
 use Rattle.frames_spec.proofs.Lines.{between, between-part, no-end, end-within, no-letter, other-letter, lettered}
 use Rattle.frames_read.proofs.line.read_front.Statement.{statement}
 use Rattle.frames_read.proofs.line.read_front.Tie as tie
@@ -36,8 +37,12 @@ ends c = omega (arith, first-length (c .before), c .before .find10 .ensures .1, 
 within : (c : tie.Else1) → (end (c .before) < 270) × (end (c .before) < length (bs (c .before)))
 within c = end-within (bs (c .before)) (end (c .before)) (ends c)
 
-digits : (c : tie.After-all-digits) → let z = c .before .before .before .before .before .before in c .all-digits .result ≡ allDigits (between (end z) (bs z))
-digits c = let z = c .before .before .before .before .before .before in c .all-digits .ensures ∙ ap allDigits (between-part (end z) (bs z))
+scanned : (c : tie.After-scan) → let z = c .before .before .before .before .before .before in
+    (ltb (c .scan .result .worst) 16 ≡ allDigits (between (end z) (bs z))) × (c .scan .result .sum ≡ byteSum (between (end z) (bs z)) % 256)
+scanned c =
+    let z = c .before .before .before .before .before .before in
+    let p = between-part (end z) (bs z) in
+    (c .scan .ensures .0 ∙ ap allDigits p, c .scan .ensures .1 ∙ ap (λ (ds : List ℕ). byteSum ds % 256) p)
 
 head-requires : tie.Need-head-requires
 head-requires c κs = search needs
@@ -60,32 +65,34 @@ returns-3 c =
     let z = e .before in
     rw (other-letter (letter z) (bs z) (end z) (is-end z) (ends e) (omega arith) (c .if3 .taken)) (omega arith)
 
-sub-all-digits : tie.Need-sub-all-digits
-sub-all-digits c = search needs
+sub-scan : tie.Need-sub-scan
+sub-scan c = search needs
 
-part-all-digits-start : tie.Need-part-all-digits-start
-part-all-digits-start c = search needs
+part-scan-start : tie.Need-part-scan-start
+part-scan-start c = search needs
 
-part-all-digits-end : tie.Need-part-all-digits-end
-part-all-digits-end c = let w = within (c .before .before .before) in search needs
+part-scan-end : tie.Need-part-scan-end
+part-scan-end c = let w = within (c .before .before .before) in search needs
 
-all-digits-requires : tie.Need-all-digits-requires
-all-digits-requires c κs = search needs
+scan-requires : tie.Need-scan-requires
+scan-requires c κs = search needs
 
 returns-4 : tie.Need-returns-4
 returns-4 c =
-    let e = c .before .before .before .before .before .before in
+    let k = c .before .before in
+    let e = k .before .before .before .before .before in
     let z = e .before in
-    let d = sym (digits (c .before)) ∙ not-true _ (c .if4 .taken) in
-    rw (lettered (letter z) (bs z) (end z) (is-end z) (ends e) (omega arith) (c .before .before .before .if3 .left), d) (omega arith)
+    let d = sym (scanned k .0) ∙ le-ltb (k .scan .result .worst) 16 (c .if4 .taken) in
+    rw (lettered (letter z) (bs z) (end z) (is-end z) (ends e) (omega arith) (k .before .before .if3 .left), d) (omega arith)
 
 returns-5 : tie.Need-returns-5
 returns-5 c =
-    let e = c .before .before .before .before .before .before in
+    let k = c .before .before in
+    let e = k .before .before .before .before .before in
     let z = e .before in
-    let d = sym (digits (c .before)) ∙ not-false _ (c .if4 .left) in
-    rw (lettered (letter z) (bs z) (end z) (is-end z) (ends e) (omega arith) (c .before .before .before .if3 .left), d)
-    (refl, is-end z, omega arith, within e .1, within e .0, refl, d)
+    let d = sym (scanned k .0) ∙ lt-ltb (k .scan .result .worst) 16 (c .if4 .left) in
+    rw (lettered (letter z) (bs z) (end z) (is-end z) (ends e) (omega arith) (k .before .before .if3 .left), d)
+    (refl, is-end z, omega arith, within e .1, refl, d, scanned k .1)
 
 pub read-front-spec : {M : Type 1} → statement M
 read-front-spec =
@@ -97,9 +104,9 @@ read-front-spec =
     returns-2
     shared-slice-read-if3
     returns-3
-    sub-all-digits
-    part-all-digits-start
-    part-all-digits-end
-    all-digits-requires
+    sub-scan
+    part-scan-start
+    part-scan-end
+    scan-requires
     returns-4
     returns-5)

@@ -7,8 +7,8 @@ use native.Mathlib.Omega.{arith}
 use lib.ListN.{length, take, getD}
 use lib.Seq.{take-all}
 use Rattle.bytes_spec.specs.Bytes.{bytesOf}
+use Rattle.bytes_spec.proofs.OneBehindTheOther.{flat-next}
 use Rattle.host_spec.specs.LaneImage.{clipsSize}
-use Rattle.host_lanes.proofs.Counts.{flat-next}
 use Rattle.host_lanes.proofs.lane_image.put_clips.Statement.{statement}
 use Rattle.host_lanes.proofs.lane_image.put_clips.Tie as tie
 
@@ -53,7 +53,7 @@ loop-again c =
       omega (arith, p .before .before .loop-test .taken),
       search needs,
       ap (λ k. take k (p .put-number .last .0)) next ∙ p .put-number .ensures .0 ∙ (λ t. l .inv .2 t ++ bytesOf clipsSize (getD clips (l .i) 0))
-          ∙ sym (flat-next (bytesOf clipsSize) clips (l .i) (omega (arith, p .before .before .loop-test .taken, many))),
+          ∙ sym (flat-next (bytesOf clipsSize) 0 clips (l .i) (omega (arith, p .before .before .loop-test .taken, many))),
     )
 
 same-length : tie.Need-same-length Inv-loop μ-loop

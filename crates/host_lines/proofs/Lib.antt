@@ -1,0 +1,2 @@
+mod SamplesMoved
+mod LineRead

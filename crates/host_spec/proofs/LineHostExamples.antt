@@ -1,0 +1,97 @@
+-- What the definitions of the host calls that write and read lines come to on given bytes, by computation. Assumes nothing.
+use mathlib.Core.Path.{_≡_, refl}
+use mathlib.Core.List.{List, [], _∷_, _++_, flatMap}
+use Prim.Native.Nat.{ℕ}
+use native.Mathlib.Omega.{arith}
+use lib.ListN.{length, replicate}
+use Rattle.oscillator_spec.specs.Word.{isWord}
+use Rattle.converter_state.specs.Start.{isKernel}
+use Rattle.bytes_spec.specs.Bytes.{numberOf, bytesOf, samplesOf}
+use Rattle.frames_spec.specs.Line.{before10, lineEnd, hasEnd, digitValue, allDigits, numberAfter, byteSum, digitOf, digitsOf, afterLetter, lineDigits}
+use Rattle.frames_spec.specs.Frame.{frameSamples, hasLength, checkHolds, frameOf, dataLine}
+use Rattle.frames_spec.specs.StartLine.{startOf, startLine}
+use Rattle.frames_spec.specs.Written.{sampleDigits, frameDigits, checkOf, dataBytes, startBytes, dataRefusal, startRefusal}
+use Rattle.host_spec.specs.HostLines.{writeReply, hostWriteData, hostWriteStart, dataFields, startFields, readReply, hostReadData, startReply, hostReadStart}
+use Rattle.host_spec.proofs.HostLineLaws.{write-many}
+
+-- ---- D lines: `DFEDCBA980280007FFFD4` and byte 10, with the samples -32768 and 32767
+abbrev pub line : List ℕ
+line = 68 ∷ 70 ∷ 69 ∷ 68 ∷ 67 ∷ 66 ∷ 65 ∷ 57 ∷ 56 ∷ 48 ∷ 50 ∷ 56 ∷ 48 ∷ 48 ∷ 48 ∷ 55 ∷ 70 ∷ 70 ∷ 70 ∷ 68 ∷ 52 ∷ 10 ∷ []
+
+abbrev pub two : List ℕ
+two = 0x00 ∷ 0x80 ∷ 0xFF ∷ 0x7F ∷ []
+
+-- number and count, low byte first
+abbrev fields : List ℕ
+fields = 0x98 ∷ 0xBA ∷ 0xDC ∷ 0xFE ∷ 2 ∷ 0 ∷ 0 ∷ 0 ∷ []
+
+-- what stands past the line stays
+pub writes : hostWriteData 0xFEDCBA98 two (replicate 24 7) ≡ writeReply 0 (line ++ (7 ∷ 7 ∷ []))
+unfolding numberOf samplesOf flatMap byteSum digitValue digitOf digitsOf sampleDigits frameDigits checkOf dataBytes dataRefusal hostWriteData
+writes = refl
+
+-- a buffer of just the line's length is enough; one byte less is 14, and so are no samples
+pub write-sizes : (hostWriteData 0xFEDCBA98 two (replicate 22 7) ≡ writeReply 0 line) × (hostWriteData 0xFEDCBA98 two (replicate 21 7) ≡ writeReply 14 (replicate 21 7))
+    × (hostWriteData 0 [] (replicate 24 7) ≡ writeReply 14 (replicate 24 7))
+unfolding numberOf samplesOf flatMap byteSum digitValue digitOf digitsOf sampleDigits frameDigits checkOf dataBytes dataRefusal hostWriteData
+write-sizes = (refl, refl, refl)
+
+-- 65 samples are 14 whatever the buffer
+pub write-65 : (samples old : List ℕ) → length samples ≡ 130 → hostWriteData 0 samples old ≡ writeReply 14 old
+write-65 samples old h = write-many 0 samples old (rw h) (omega arith)
+
+-- a single byte, and no room: 12 comes before 14
+pub write-odd-byte : hostWriteData 0 (1 ∷ []) [] ≡ writeReply 12 []
+unfolding samplesOf dataRefusal hostWriteData
+write-odd-byte = refl
+
+-- the bytes past the samples stay
+pub reads : hostReadData (line ++ (68 ∷ [])) (replicate 8 7) (replicate 6 9) ≡ readReply 0 fields (two ++ (9 ∷ 9 ∷ []))
+unfolding bytesOf flatMap before10 lineEnd hasEnd digitValue allDigits numberAfter byteSum afterLetter lineDigits frameSamples hasLength checkHolds frameOf dataLine dataFields hostReadData
+reads = refl
+
+-- three bytes of samples are one place: 11 comes before 12, which an odd buffer with places enough meets
+pub read-odd : (hostReadData line (replicate 8 7) (1 ∷ 2 ∷ 3 ∷ []) ≡ readReply 11 (replicate 8 7) (1 ∷ 2 ∷ 3 ∷ []))
+    × (hostReadData line (replicate 8 7) (1 ∷ 2 ∷ 3 ∷ 4 ∷ 5 ∷ []) ≡ readReply 12 (replicate 8 7) (1 ∷ 2 ∷ 3 ∷ 4 ∷ 5 ∷ []))
+unfolding bytesOf flatMap before10 lineEnd hasEnd digitValue allDigits numberAfter byteSum afterLetter lineDigits frameSamples hasLength checkHolds frameOf dataLine dataFields hostReadData
+read-odd = (refl, refl)
+
+-- no line, with an odd buffer: 6
+pub read-nothing : hostReadData [] (replicate 8 7) (1 ∷ []) ≡ readReply 6 (replicate 8 7) (1 ∷ [])
+unfolding before10 lineEnd hasEnd lineDigits dataLine hostReadData
+read-nothing = refl
+
+-- the same with fields of a K line's length: 5 comes before 6 and 12
+pub read-other-fields : hostReadData [] (replicate 16 7) (1 ∷ []) ≡ readReply 5 (replicate 16 7) (1 ∷ [])
+unfolding before10 lineEnd hasEnd lineDigits dataLine hostReadData
+read-other-fields = refl
+
+-- ---- K lines: `K3123456789FEDCBA98` and byte 10
+abbrev pub opening : List ℕ
+opening = 75 ∷ 51 ∷ 49 ∷ 50 ∷ 51 ∷ 52 ∷ 53 ∷ 54 ∷ 55 ∷ 56 ∷ 57 ∷ 70 ∷ 69 ∷ 68 ∷ 67 ∷ 66 ∷ 65 ∷ 57 ∷ 56 ∷ 10 ∷ []
+
+pub write-opening : hostWriteStart 3 0x123456789 0xFEDCBA98 (replicate 21 7) ≡ writeReply 0 (opening ++ (7 ∷ []))
+unfolding digitOf digitsOf isWord isKernel startBytes startRefusal hostWriteStart
+write-opening = refl
+
+-- kernel 4, and 256, which has no low bits; word 0; too short a buffer: 1 comes before 4, and 4 before 14
+pub write-opening-refused : (hostWriteStart 4 0 0 [] ≡ writeReply 1 []) × (hostWriteStart 256 1 0 (replicate 20 7) ≡ writeReply 1 (replicate 20 7))
+    × (hostWriteStart 3 0 0 [] ≡ writeReply 4 []) × (hostWriteStart 3 1 0 (replicate 19 7) ≡ writeReply 14 (replicate 19 7))
+unfolding digitOf digitsOf isWord isKernel startBytes startRefusal hostWriteStart
+write-opening-refused = (refl, refl, refl, refl)
+
+-- kernel, phase and word, low byte first
+pub read-opening : hostReadStart (opening ++ (68 ∷ [])) (replicate 16 7)
+    ≡ startReply 0 (3 ∷ 0 ∷ 0 ∷ 0 ∷ 0x98 ∷ 0xBA ∷ 0xDC ∷ 0xFE ∷ 0x89 ∷ 0x67 ∷ 0x45 ∷ 0x23 ∷ 1 ∷ 0 ∷ 0 ∷ 0 ∷ [])
+unfolding bytesOf before10 lineEnd hasEnd digitValue allDigits numberAfter afterLetter lineDigits isWord isKernel startOf startLine startFields hostReadStart
+read-opening = refl
+
+-- a D line: 7
+pub read-other-letter : hostReadStart line (replicate 16 7) ≡ startReply 7 (replicate 16 7)
+unfolding bytesOf before10 lineEnd hasEnd digitValue allDigits numberAfter afterLetter lineDigits isWord isKernel startOf startLine startFields hostReadStart
+read-other-letter = refl
+
+-- with fields of its own length too: 5
+pub read-short-fields : hostReadStart line (replicate 8 7) ≡ startReply 5 (replicate 8 7)
+unfolding bytesOf before10 lineEnd hasEnd digitValue allDigits numberAfter afterLetter lineDigits isWord isKernel startOf startLine startFields hostReadStart
+read-short-fields = refl
