@@ -44,3 +44,28 @@ pub fn advance_by_carry(kernel: u8, old: u32, word: u64) -> i128 {
         _ => plain,
     }
 }
+
+const Y: bool = true;
+const N: bool = false;
+
+/// Table 1 of source document 001, "Buffer control logic for SRC using odd number of basepoints",
+/// row by row as printed: NCO(k−1), CO(k), NCO(k) and "Increase n(k)". The text has a register
+/// "greater than or equal to 0.5" for Y.
+pub const PRINTED: [(bool, i128, bool, i128); 6] =
+    [(Y, 1, N, 0), (Y, 1, Y, 1), (Y, 0, Y, 0), (N, 1, N, 1), (N, 0, Y, 1), (N, 0, N, 0)];
+
+/// The case of the printed table, from 1 on, that a step of the register by a word is, if any.
+pub fn printed_case(old: u32, word: u64) -> Option<usize> {
+    let (new, carry) = old.overflowing_add(word as u32);
+    let upper = |register: u32| register as i128 >= HALF;
+    let is = |row: &(bool, i128, bool, i128)| {
+        (row.0, row.1, row.2) == (upper(old), carry as i128, upper(new))
+    };
+    PRINTED.iter().position(is).map(|at| at + 1)
+}
+
+/// Request U3: "The advance of kernel 1" by that table; "the whole part of the word is still
+/// added".
+pub fn advance_by_table(old: u32, word: u64) -> Option<i128> {
+    printed_case(old, word).map(|case| (word >> 32) as i128 + PRINTED[case - 1].3)
+}

@@ -1,5 +1,5 @@
 //! The settled examples of document 01, starred or not, the printed examples of the program, and
-//! what requests U1 and U2 settle, run on the implementation before every command.
+//! what requests U1 to U3 settle, run on the implementation before every command.
 
 use crate::frames::Start;
 use crate::host;
@@ -28,6 +28,7 @@ pub fn run() -> Result<usize, String> {
     examples.extend(programs());
     examples.extend(lanes());
     examples.extend(lines());
+    examples.extend(table());
     examples.extend(facts());
     match examples.iter().find(|(_, holds)| !holds) {
         Some((name, _)) => Err(format!("settled example does not hold: {name}")),
@@ -228,6 +229,39 @@ fn programs() -> Vec<Example> {
             "the program: bytes left with no byte 10 give R06",
             program::run(b"K008000000000000000\nD0") == b"R06\n",
         ),
+    ]
+}
+
+/// Request U3 and source document 001, section 4.3: kernel 1's advance is the whole part of the
+/// word and the increase of a printed row, for drawn registers and words, and for all multiples of
+/// an eighth of a sample, words up to 4, with the numbers next to them; each printed case is among
+/// these; and the two worked examples are "corresponding to case 3 and case 1".
+fn table() -> Vec<Example> {
+    let mut random = Random(2);
+    let drawn = (0..10000).map(|_| (random.next() as u32, random.magnitude(34) + 1));
+    let near =
+        |eighths: u64| (0..3u64).map(move |by| (eighths << 29).wrapping_add(by).wrapping_sub(1));
+    let words = (0..=32).flat_map(near).filter(|word| (1..=1 << 34).contains(word));
+    let edges =
+        words.flat_map(|word| (0..8).flat_map(near).map(move |register| (register as u32, word)));
+    let steps: Vec<(u32, u64)> = drawn.chain(edges).collect();
+    let right = |&(register, word): &(u32, u64)| {
+        oscillator::advance_by_table(register, word) == Some(oscillator::advance(1, register, word))
+    };
+    let occurs = |case| {
+        steps.iter().any(|&(register, word)| oscillator::printed_case(register, word) == Some(case))
+    };
+    let tenths = |n: u64| n * (1 << 32) / 10;
+    let example = |word, case| {
+        let step = (tenths(7) as u32, tenths(word));
+        oscillator::printed_case(step.0, step.1) == Some(case)
+            && oscillator::advance(1, step.0, step.1) == 0
+    };
+    vec![
+        ("kernel 1's advance is whole part and printed row", steps.iter().all(right)),
+        ("each printed case occurs", (1..=6).all(occurs)),
+        ("register 0.7, word 0.2: case 3, no advance", example(2, 3)),
+        ("register 0.7, word 0.4: case 1, no advance", example(4, 1)),
     ]
 }
 

@@ -1,5 +1,6 @@
-// Runs the settled examples of document 01 that are not starred, those on ratios and the one on empty buffers, then settings at the edges of the rules, both calls of the readers
-// of lines and their writers, and prints what it finds, a line for each. The file `stdout` has what document 01 says. The starred examples are one theorem, of the crate `promises`.
+// Runs the settled examples of document 01 that are not starred, those on ratios and the one on empty buffers, then settings at the edges of the rules, kernel 1's
+// table and the worked examples beside it in source document 001, both calls of the readers of lines and their writers, and prints what it finds, a line for each.
+// The file `stdout` has what the documents say. The starred examples are one theorem, of the crate `promises`.
 use converter_spec::End;
 use converter_state::State;
 use frames_spec::WrittenLine;
@@ -122,6 +123,43 @@ fn number(name: &[u8], n: u64) {
     io::print_decimal(STDOUT_FILENO, n);
 }
 
+// A row of kernel 1's table, behind its three bits: old top bit, carry, new top bit.
+fn row(bits: &[u8], advance: u64) {
+    io::write_all(STDOUT_FILENO, b"three-point row ");
+    number(bits, advance);
+    io::write_all(STDOUT_FILENO, b"\n");
+}
+
+fn three_point_rows() {
+    let rows = oscillator::three_point_advances();
+    row(b"0 0 0: ", rows[0]);
+    row(b"0 0 1: ", rows[1]);
+    row(b"0 1 0: ", rows[2]);
+    row(b"0 1 1: ", rows[3]);
+    row(b"1 0 0: ", rows[4]);
+    row(b"1 0 1: ", rows[5]);
+    row(b"1 1 0: ", rows[6]);
+    row(b"1 1 1: ", rows[7]);
+}
+
+// One step of kernel 1's register, with the carry and the advance of its basepoint.
+fn three_point_step(description: &[u8], register: u32, word: u64) {
+    io::write_all(STDOUT_FILENO, description);
+    let new = oscillator::step(register, word);
+    number(b": carry ", oscillator::carry(register, new));
+    number(
+        b", advance ",
+        oscillator::advance(true, register, new, word),
+    );
+    io::write_all(STDOUT_FILENO, b"\n");
+}
+
+// The two worked examples of source document 001, section 4.3, in units of 2^-32, rounded down.
+fn three_point_steps() {
+    three_point_step(b"register 0.7, word 0.2", 3006477107, 858993459);
+    three_point_step(b"register 0.7, word 0.4", 3006477107, 1717986918);
+}
+
 // A D line of two samples and the D that follows it, read by both calls.
 fn data_line(description: &[u8], samples: &mut [i16]) {
     let line: &[u8] = b"DFEDCBA980280007FFFD4\nD";
@@ -217,6 +255,8 @@ fn main() {
     rounded_ratios();
     words();
     rates();
+    three_point_rows();
+    three_point_steps();
     short_buffer();
     long_buffer();
     start_lines();

@@ -7,5 +7,6 @@ pub use register::basepoint;
 pub use register::carry;
 pub use register::filter_fraction;
 pub use register::step;
+pub use register::three_point_advances;
 pub use settings::is_word;
 pub use settings::word_of;

@@ -14,7 +14,8 @@ use Rattle.integers.specs.Order.{ωℤ}
 use Rattle.integers.specs.Floor.{floorDiv, IsFloor, floor-is}
 use Rattle.integers.specs.Range.{In, i-floor}
 use Rattle.oscillator_spec.specs.Position.{position, half, basepoint, fraction, fourteenBits}
-use Rattle.oscillator_spec.specs.Register.{registerOf, stepped, steps, carryOf, topBitOf, advanceOf}
+use Rattle.oscillator_spec.specs.Register.{registerOf, stepped, steps, carryOf, topBitOf, threePointAdvance, advanceOf}
+use Rattle.oscillator_spec.proofs.ThreePointRows.{row-sum}
 
 -- ---- positions: "start + sum of the words before", and in two parts
 pub position-sum : (p : ℕ) (ws : List ℕ) → position p ws ≡ p + foldr _+_ 0 ws
@@ -72,9 +73,31 @@ pub top-le : (old new : ℕ) → old < 2 ^ 32 → topBitOf old ≤ carryOf old n
 unfolding carryOf topBitOf
 top-le old new h = go (ltb new old) refl
   where
-    go : (b : Bool) → ltb new old ≡ b → old / 2 ^ 31 ≤ cond b 1 0 + new / 2 ^ 31
+    go : (b : Bool) → ltb new old ≡ b → topBitOf old ≤ cond b 1 0 + topBitOf new
     go true e = omega arith
     go false e = omega (arith, ltb-false new old e)
+
+-- a top bit is at most 1, and carry and new top bit come to at most one more than the old one
+pub top-one : (r : ℕ) → r < 2 ^ 32 → topBitOf r ≤ 1
+unfolding topBitOf
+top-one r h = omega arith
+
+pub top-most : (old new : ℕ) → new < 2 ^ 32 → carryOf old new + topBitOf new ≤ topBitOf old + 1
+unfolding carryOf topBitOf
+top-most old new h = go (ltb new old) refl
+  where
+    go : (b : Bool) → ltb new old ≡ b → cond b 1 0 + topBitOf new ≤ topBitOf old + 1
+    go true e = omega (arith, ltb-true new old e)
+    go false e = omega arith
+
+-- ---- kernel 1: the table is the sum
+pub table-sum : (old new : ℕ) → old < 2 ^ 32 → new < 2 ^ 32 → threePointAdvance (topBitOf old) (carryOf old new) (topBitOf new) + topBitOf old ≡ carryOf old new + topBitOf new
+table-sum old new h g = row-sum (topBitOf old) (carryOf old new) (topBitOf new) (top-one old h) (carry-le old new) (top-one new g) (top-le old new h) (top-most old new g)
+
+-- "the whole part of W, plus carry, plus the register's new top bit, minus its old one", of every two registers and every word
+pub advance-sum : (old new w : ℕ) → old < 2 ^ 32 → new < 2 ^ 32 → advanceOf true old new w + topBitOf old ≡ w / 2 ^ 32 + carryOf old new + topBitOf new
+unfolding advanceOf
+advance-sum old new w h g = omega (arith, table-sum old new h g)
 
 -- ---- basepoints: of a register, in the order of positions, and from how far on a sample is reached
 pub basepoint-of : (nearest : Bool) {b : Bool} (r : ℕ) → r < 2 ^ 32 → nearest ≡ b → basepoint nearest r ≡ cond b (topBitOf r) 0
@@ -116,7 +139,7 @@ unfolding advanceOf
 advance-is false q w = unfold basepoint in omega (arith, whole q w)
 advance-is true q w =
     let after : topBitOf (stepped (registerOf q) w) ≡ topBitOf (registerOf (q + w)) = ap topBitOf (register-step q w) in
-    omega (arith, top-is q, top-is (q + w), whole q w, top-le (registerOf q) (stepped (registerOf q) w) (register-below q))
+    omega (arith, top-is q, top-is (q + w), whole q w, advance-sum (registerOf q) (stepped (registerOf q) w) w (register-below q) (stepped-below (registerOf q) w))
 
 -- of any register, which is a position itself: at most 4
 pub advance-le : (nearest : Bool) (r w : ℕ) → r < 2 ^ 32 → w ≤ 2 ^ 34 → advanceOf nearest r (stepped r w) w ≤ 4

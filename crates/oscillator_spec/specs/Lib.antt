@@ -1,3 +1,4 @@
 pub mod Word
 pub mod Position
 pub mod Register
+pub mod ThreePointTable

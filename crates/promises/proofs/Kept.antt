@@ -1,4 +1,5 @@
 -- The promises, kept: the one value of the record, by the theorems of each layer. Assumes nothing.
+use Rattle.oscillator_spec.proofs.PrintedRows.{three-point-table}
 use Rattle.kernels_spec.proofs.Card.{second}
 use Rattle.kernels_spec.proofs.Close.{near-paper}
 use Rattle.converter_spec.proofs.Third.{third}
@@ -34,4 +35,5 @@ promises = record {
   round-trips = round-trips;
   replay = replay;
   host-round-trips = host-round-trips;
+  three-point-table = three-point-table;
 }

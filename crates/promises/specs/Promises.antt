@@ -1,5 +1,6 @@
 -- What this repository promises over its definitions, on one page: a field for each promise, in the order of document 01 and then of the requests, with the sentence that it renders. Each cites a statement, which
 -- stands with the definitions of its layer; what single functions return and leave is in their contracts. The one value of this record is in proofs/Kept.antt. Definitions only.
+use Rattle.oscillator_spec.specs.ThreePointTable.{ThreePointTable}
 use Rattle.kernels_spec.specs.Demand2.{Second, NearPaper}
 use Rattle.converter_spec.specs.Demand.{Third}
 use Rattle.lanes_spec.specs.LaneFeeding.{EachLaneAlone}
@@ -46,3 +47,5 @@ pub record Promises : Type 0 where
   pub replay : Replay
   -- the round trips of request U2 for the host, byte for byte
   pub host-round-trips : HostRoundTrips
+  -- request U3: "Use an eight-row table in its place, by old top bit, carry and new top bit, with 0 in the two rows that never occur"; "Callers notice nothing"
+  pub three-point-table : ThreePointTable

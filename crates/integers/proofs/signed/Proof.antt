@@ -17,6 +17,9 @@ use Rattle.integers.proofs.signed.Tie as tie
 missing : (k : ℕ) → k < 2 ^ 15 → negsuc 0 -ℤ toZ w16 k ≡ negsuc k
 missing k h = rw (toZ-pos w16 h) (omega (ωℤ, ω-minus (negsuc 0) (pos k)))
 
+sub-below : tie.Need-sub-below
+sub-below c = omega (arith, c .before .fits .n .fits)
+
 cast-result : tie.Need-cast-result
 cast-result c = search needs
 
@@ -28,9 +31,6 @@ returns-2 c =
     let n = c .before .args .n in
     let h : 65535 - n < 2 ^ 15 = omega arith in
     rw (missing (65535 - n) h, le-ltb n (2 ^ 15) (c .if1 .left)) (toZ-ofZ {w = w16} {z = negsuc (65535 - n)} (record { sfits = h }) ∙ ap negsuc (omega arith))
-
-sub-below : tie.Need-sub-below
-sub-below c = search needs
 
 cast-below : tie.Need-cast-below
 cast-below c = search needs
