@@ -1,10 +1,11 @@
 /* Times resampler_write_data and resampler_read_data of the C library against the same in plain C, in one process and
    in turn, and prints the best time of each in nanoseconds a line, with their ratio: for lines of 64 samples and of
-   one. Lines are written one after another, and read where they lie; the time includes the calls. It stops where two
-   makers answer otherwise or leave other bytes, refused lines included.
+   one. Lines are written one after another, and read where they lie, each with the number before it told; the time
+   includes the calls. It stops where two makers answer otherwise or leave other bytes, refused lines included.
 
-   Built with OLD it holds and times an older archive too, and `compare_lines --count FILE` prints instructions, both as
-   compare.c does. */
+   Built with OLD it holds and times an older archive too, but for reads that the new one refuses with 15, since an
+   archive of before request U4 accepts those; and `compare_lines --count FILE` prints instructions, both as compare.c
+   does. */
 #include "measure.h"
 #include "plain.h"
 #include "resampler.h"
@@ -45,6 +46,8 @@ struct row {
     struct times times;
 };
 
+/* The numbers of lines that follow one another, and of lines that do not. */
+static uint32_t rising(size_t line) { return (uint32_t)(0x9E3779B1 + line); }
 static uint32_t number(size_t line) { return (uint32_t)(line * 0x9E3779B1); }
 
 /* Writes all lines, and returns the time. */
@@ -55,22 +58,24 @@ static double write_lines(const struct maker *maker, const struct row *row, uint
     double began = now();
     for (size_t k = 0; k < passes; k++)
         for (size_t i = 0; i < row->lines; i++)
-            if (write(number(i), wave + i * bytes, bytes, text + i * length, LONGEST) != RESAMPLER_ACCEPTED)
+            if (write(rising(i), wave + i * bytes, bytes, text + i * length, LONGEST) != RESAMPLER_ACCEPTED)
                 fail("write refused");
     return now() - began;
 }
 
-/* Reads all lines, and returns the time. */
+/* Reads all lines, and returns the time. Each pass begins with any number. */
 static double read_lines(const struct maker *maker, const struct row *row, const uint8_t *text)
 {
     uint8_t frame[FIELDS] = {0}, samples[MOST * PAIR];
     read_function *read = maker->read;
     size_t length = RESAMPLER_DATA_LINE_BYTES(row->count), all = row->lines * length;
     double began = now();
-    for (size_t k = 0; k < passes; k++)
+    for (size_t k = 0; k < passes; k++) {
+        resampler_any_sequence(frame);
         for (size_t at = 0; at < all; at += length)
             if (read(text + at, all - at, frame, sizeof frame, samples, sizeof samples) != RESAMPLER_ACCEPTED)
                 fail("read refused");
+    }
     return now() - began;
 }
 
@@ -108,14 +113,17 @@ static void compare_write(uint32_t sequence, const uint8_t *samples, size_t byte
     }
 }
 
-/* One read of every maker. */
-static void compare_read(const uint8_t *line, size_t length, size_t fields, size_t space)
+/* One read of every maker, with a frame that holds this number and count. Of an older archive none that the new one
+   refuses with 15. */
+static void compare_told(const uint8_t *line, size_t length, size_t fields, size_t space, uint32_t told, uint32_t count)
 {
     uint8_t frames[MAKERS][FIELDS + 8], samples[MAKERS][MOST * PAIR + 8];
     uint32_t answers[MAKERS];
     memset(frames, 0xEE, sizeof frames);
     memset(samples, 0xEE, sizeof samples);
-    for (size_t i = 0; i < MAKERS; i++) {
+    for (size_t i = 0; i < MAKERS && !(i == THIRD && answers[NEW] == RESAMPLER_BAD_SEQUENCE); i++) {
+        memcpy(frames[i] + RESAMPLER_AT_SEQUENCE, &told, sizeof told);
+        memcpy(frames[i] + RESAMPLER_AT_COUNT, &count, sizeof count);
         answers[i] = makers[i].read(line, length, frames[i], fields, samples[i], space);
         must_be_same(answers[i] == answers[NEW] && memcmp(frames[i], frames[NEW], sizeof frames[i]) == 0 &&
                          memcmp(samples[i], samples[NEW], sizeof samples[i]) == 0,
@@ -123,8 +131,33 @@ static void compare_read(const uint8_t *line, size_t length, size_t fields, size
     }
 }
 
-/* Writes of every length into every space; reads of every line whole and cut, into every space; and every change of one
-   byte of a line of three samples. */
+/* Reads with no number told, with the one before the line's, and with the line's. */
+static void compare_read(uint32_t sequence, const uint8_t *line, size_t length, size_t fields, size_t space)
+{
+    compare_told(line, length, fields, space, 0xEEEEEEEE, 0);
+    compare_told(line, length, fields, space, sequence - 1, 1);
+    compare_told(line, length, fields, space, sequence, 1);
+}
+
+/* Reads of lines with each of these numbers, told each of them, with each of these counts, into every space. */
+static void compare_order(void)
+{
+    static const uint32_t numbers[] = {0,       1,         2,          0xFF,       0x100,      0xFFFF,
+                                       0x10000, 0x1000000, 0x7FFFFFFF, 0x80000000, 0xFFFFFFFE, 0xFFFFFFFF};
+    static const uint32_t counts[] = {0, 1, 64, 65, 0x100, 0x10000, 0x1000000, 0x80000000, 0xFFFFFFFF};
+    enum { NUMBERS = sizeof numbers / sizeof numbers[0], COUNTS = sizeof counts / sizeof counts[0] };
+    uint8_t line[RESAMPLER_DATA_LINE_BYTES(1)];
+    for (size_t i = 0; i < NUMBERS; i++) {
+        if (resampler_write_data(numbers[i], wave, PAIR, line, sizeof line) != RESAMPLER_ACCEPTED)
+            fail("write refused");
+        for (size_t j = 0; j < NUMBERS * COUNTS; j++)
+            for (size_t space = 0; space <= 2 * PAIR; space++)
+                compare_told(line, sizeof line, FIELDS, space, numbers[j / COUNTS], counts[j % COUNTS]);
+    }
+}
+
+/* Writes of every length into every space; reads of every line whole and cut, into every space; every change of one
+   byte of a line of three samples; and lines out of order. */
 static void compare(void)
 {
     uint8_t line[LONGEST];
@@ -133,20 +166,22 @@ static void compare(void)
             compare_write(number(bytes + space), wave + space * PAIR, bytes, space);
     for (size_t count = 1; count <= MOST; count++) {
         size_t length = RESAMPLER_DATA_LINE_BYTES(count);
-        if (resampler_write_data(number(count), wave, count * PAIR, line, sizeof line) != RESAMPLER_ACCEPTED)
+        uint32_t sequence = number(count);
+        if (resampler_write_data(sequence, wave, count * PAIR, line, sizeof line) != RESAMPLER_ACCEPTED)
             fail("write refused");
         for (size_t cut = 0; cut <= length; cut++)
-            compare_read(line, cut, FIELDS, MOST * PAIR);
+            compare_read(sequence, line, cut, FIELDS, MOST * PAIR);
         for (size_t space = 0; space <= MOST * PAIR; space++)
-            compare_read(line, length, FIELDS, space);
-        compare_read(line, length, FIELDS - 1, MOST * PAIR);
+            compare_read(sequence, line, length, FIELDS, space);
+        compare_read(sequence, line, length, FIELDS - 1, MOST * PAIR);
         for (size_t i = 0; i < length && count == 3; i++)
             for (int change = 1; change < 256; change++) {
                 line[i] ^= (uint8_t)change;
-                compare_read(line, length, FIELDS, MOST * PAIR);
+                compare_read(sequence, line, length, FIELDS, MOST * PAIR);
                 line[i] ^= (uint8_t)change;
             }
     }
+    compare_order();
 }
 
 int main(int argc, char **argv)

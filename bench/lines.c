@@ -12,6 +12,7 @@ static unsigned char values[256]; /* of digits; 16 for any other character */
 static unsigned char input[BUFFER], text[BUFFER];
 static size_t from, to, filled;
 static int ended;
+static int64_t last = -1; /* the number of the last D line, or -1 where there was none */
 
 static void make_values(void)
 {
@@ -113,6 +114,10 @@ static size_t read_data(int16_t *samples)
         sum += values[ds[i]] * 16u + values[ds[i + 1]];
     if (sum % 256)
         refuse(10);
+    int64_t sequence = (int64_t)number(ds, 8);
+    if (last >= 0 && sequence != last + 1)
+        refuse(15);
+    last = sequence;
     for (size_t i = 0; i < count; i++)
         samples[i] = (int16_t)number(ds + 10 + 4 * i, 4);
     from += n + 1;

@@ -72,7 +72,7 @@ uint32_t plain_read_data(const uint8_t *line, size_t line_length, uint8_t *frame
 {
     uint8_t taken[RESAMPLER_MOST_SAMPLES * RESAMPLER_SAMPLE_BYTES];
     unsigned sum = 0, seen = 0;
-    uint32_t fields[2] = {0, 0};
+    uint32_t fields[2] = {0, 0}, told[2]; /* number and count */
     if (frame_length != RESAMPLER_DATA_FIELDS_BYTES)
         return RESAMPLER_BAD_IMAGE;
     const uint8_t *at = line + 1,
@@ -102,6 +102,9 @@ uint32_t plain_read_data(const uint8_t *line, size_t line_length, uint8_t *frame
         return RESAMPLER_BAD_DIGIT;
     if (sum % 256 != 0)
         return RESAMPLER_BAD_CHECK;
+    memcpy(told, frame, sizeof told);
+    if (told[1] != 0 && fields[0] != (uint64_t)told[0] + 1)
+        return RESAMPLER_BAD_SEQUENCE;
     if (samples_length / 2 < count)
         return RESAMPLER_SHORT_BUFFER;
     if (samples_length % 2 != 0 || samples_length > RESAMPLER_LARGEST_BUFFER)

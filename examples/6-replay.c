@@ -1,6 +1,6 @@
 /* A replay: a recording goes to standard output as frame lines, which a station that listens, such as 7-listen.c, or
-   the program `resample` takes in. The K line has kernel, word and phase; each D line has a number and up to 64
-   samples.
+   the program `resample` takes in. The K line has kernel, word and phase; each D line has a number, which rises by one,
+   and up to 64 samples.
 
    With the argument `feed` it prints what comes of the recording instead, from one feed without any lines, in the form
    in which the program prints it: each output as four digits on a line, and at the end E with the numbers of outputs

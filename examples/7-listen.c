@@ -4,7 +4,11 @@
 
    What comes is cut anywhere, not at the ends of lines. While a line is not whole a read is refused with 6, and the
    station waits for more. Its buffer has room for the longest line, so that a line which does not end there is refused
-   for good. It gives up on that and on every other refusal, and where the input ends amid a line. */
+   for good.
+
+   D lines are numbered by one. One whose number is not the next is refused with 15: the station says so, and goes on
+   from it, with its samples where they came. (The program ends there, with R15.) The station gives up on every other
+   refusal, and where the input ends amid a line. */
 #include "resampler.h"
 
 #include <inttypes.h>
@@ -66,16 +70,27 @@ static void read_start(uint8_t *image)
                                        resampler_line_word(frame), resampler_line_phase(frame)));
 }
 
-/* Reads a D line, and returns the number of its samples; 0 where the input has ended. */
+static uint32_t try_data(uint8_t *frame, uint8_t *samples)
+{
+    return resampler_read_data(bytes, held, frame, RESAMPLER_DATA_FIELDS_BYTES, samples,
+                               RESAMPLER_MOST_SAMPLES * PAIR);
+}
+
+/* Reads a D line, and returns the number of its samples; 0 where the input has ended. A line out of order is told, and
+   read again with any number. */
 static size_t read_data(uint8_t *frame, uint8_t *samples)
 {
-    uint32_t refusal;
+    uint32_t refusal, last = resampler_sequence(frame);
     do
-        refusal = resampler_read_data(bytes, held, frame, RESAMPLER_DATA_FIELDS_BYTES, samples,
-                                      RESAMPLER_MOST_SAMPLES * PAIR);
+        refusal = try_data(frame, samples);
     while (is_longer(refusal));
     if (held == 0)
         return 0;
+    if (refusal == RESAMPLER_BAD_SEQUENCE) {
+        resampler_any_sequence(frame);
+        refusal = try_data(frame, samples);
+        fprintf(stderr, "line %08" PRIX32 " came after %08" PRIX32 "\n", resampler_sequence(frame), last);
+    }
     must("D line", refusal);
     go_on(resampler_after_data(bytes, frame));
     return resampler_count(frame);
@@ -100,7 +115,7 @@ static void feed(uint8_t *image, const uint8_t *samples, size_t count, uint64_t 
 int main(void)
 {
     uint8_t image[RESAMPLER_IMAGE_BYTES], samples[RESAMPLER_MOST_SAMPLES * PAIR];
-    uint8_t frame[RESAMPLER_DATA_FIELDS_BYTES] = {0}; /* cleared once, and kept from line to line */
+    uint8_t frame[RESAMPLER_DATA_FIELDS_BYTES] = {0}; /* no last number; kept from line to line */
     uint64_t made = 0, clips = 0;
     size_t count;
     read_start(image);

@@ -100,9 +100,10 @@ extern "C" {
 #define RESAMPLER_DATA_LINE_BYTES(count) (14 + 4 * (count)) /* a D line with so many samples */
 #define RESAMPLER_LONGEST_LINE RESAMPLER_DATA_LINE_BYTES(RESAMPLER_MOST_SAMPLES) /* 270 */
 
-/* What a read leaves in `frame`. Its numbers have the low byte first. Of a D line: */
+/* What a read leaves in `frame`. Its numbers have the low byte first. Of a D line, where they tell the next read which
+   number was accepted last: */
 #define RESAMPLER_AT_SEQUENCE 0 /* 4 bytes: sequence number */
-#define RESAMPLER_AT_COUNT 4    /* 4 bytes: samples in the line, 1 to 64 */
+#define RESAMPLER_AT_COUNT 4    /* 4 bytes: samples in the line, 1 to 64; on entry 0 for no last number */
 #define RESAMPLER_DATA_FIELDS_BYTES 8
 /* Of a K line: */
 #define RESAMPLER_AT_START_KERNEL 0 /* 4 bytes: 0 to 3 */
@@ -110,8 +111,8 @@ extern "C" {
 #define RESAMPLER_AT_START_WORD 8   /* 8 bytes: 1 to 2^34 */
 #define RESAMPLER_START_FIELDS_BYTES 16
 
-/* Refusals, as document 01 numbers them, and 13 and 14. Those from 6 to 11 are of lines that are read, and 14 is of
-   lines that are written.
+/* Refusals, as document 01 numbers them, and 13 to 15. Those from 6 to 11 and 15 are of lines that are read, and 14 is
+   of lines that are written.
 
     1   kernel above 3
     2   ratio not finite, or below zero (minus zero is zero)
@@ -128,9 +129,10 @@ extern "C" {
    12   host sample buffer of odd length or above 65,536 bytes
    13   lane count 0 or above 16; samples of input, or places of output, not a multiple of it
    14   no samples to write, or above 64; line buffer shorter than the line
+   15   sequence number not the next
 
-   Where several apply a call returns the lowest, except that a retune tests 5 first, and a read of a K line 1 and 4
-   last. Whatever the refusal, every buffer is left as it came. */
+   Where several apply a call returns the lowest, except that a retune tests 5 first, a read of a K line 1 and 4 last,
+   and a read of a D line 15 before 11 and 12. Whatever the refusal, every buffer is left as it came. */
 #define RESAMPLER_ACCEPTED 0
 #define RESAMPLER_BAD_KERNEL 1
 #define RESAMPLER_BAD_RATIO 2
@@ -146,6 +148,7 @@ extern "C" {
 #define RESAMPLER_BAD_BUFFER 12
 #define RESAMPLER_BAD_LANES 13
 #define RESAMPLER_BAD_WRITE 14
+#define RESAMPLER_BAD_SEQUENCE 15
 
 /* Starts. The kernel is 0 to 3. The first output stands phase / 2^32 of a sample past the first sample; any
    phase will do. The setting is a word, a ratio of the rates (input / output), or the two rates in whole hertz:
@@ -221,8 +224,9 @@ uint32_t resampler_feed_lanes(uint8_t *image, size_t image_length, uint32_t lane
 /* Writes of lines. An accepted write puts the line at the front of `line`, and bytes past it keep their contents. How
    long the line is follows from the arguments, by the names above. A line buffer has no largest length.
 
-   A D line is written from any sequence number and from 1 to 64 samples. Refusals, in this order: 12, if the length of
-   the samples is odd or above 65,536; 14, if there are none or more than 64, or if the buffer is shorter than the line.
+   A D line is written from any sequence number and from 1 to 64 samples; readers want numbers that rise by one.
+   Refusals, in this order: 12, if the length of the samples is odd or above 65,536; 14, if there are none or more than
+   64, or if the buffer is shorter than the line.
 
    A K line is written from a kernel, a word and any phase, as resampler_start_word has them. Refusals, in this order:
    1; 4; 14, if the buffer is shorter than 20 bytes. */
@@ -238,15 +242,23 @@ uint32_t resampler_write_start(uint32_t kernel, uint64_t word, uint32_t phase, u
    A host that reads from a stream gets 6 while a line is not whole. With fewer than 270 bytes lent more may come, and
    the host reads again once it has; with 270 or more the line is refused for good.
 
-   What `frame` holds on entry is not looked at. Clear its 8 bytes before the first D line all the same, and keep them
-   as they are from line to line: a later version will take the last number from them, by the same signature.
+   D lines are numbered by one, from any first number. On entry `frame` tells a read of a D line which number was
+   accepted last: a count of 0 says none, and then any number is accepted; with any other count the number beside it is
+   the last, and only the next one is accepted. No number follows FFFFFFFF hexadecimal. An accepted read leaves the
+   line's number and count there, and a refused one leaves what was told. So a host that clears the 8 bytes once, before
+   the first line of a sender, and lends them for every line of it is told of the first line out of order. On 15 the
+   host gives up, or calls resampler_any_sequence(frame) and reads the line again, and so behind a line that it passes
+   over. A line that was refused with 11 can be read again into a longer buffer.
 
-   There is one line for its fields: reading a written line returns its fields, and writing the fields of a read line
-   returns its bytes.
+   An older library, whose header has no RESAMPLER_BAD_SEQUENCE (before request U4), did not look at the 8 bytes, and
+   accepted numbers in any order. Of a K line what `frame` holds on entry is not looked at.
 
-   Refusals of a D line, in this order: 5, if `frame` is not 8 bytes long; 6 to 10; 11, if the length of `samples`,
-   halved and rounded down, is below the count; 12, if it is odd or above 65,536. Of a K line: 5, if `frame` is not 16
-   bytes long; 6 to 9; 1; 4. */
+   There is one line for its fields: reading a written line returns its fields, if the number before it is told or none,
+   and writing the fields of a read line returns its bytes.
+
+   Refusals of a D line, in this order: 5, if `frame` is not 8 bytes long; 6 to 10; 15, if a last number is told and the
+   line's is not the next; 11, if the length of `samples`, halved and rounded down, is below the count; 12, if it is odd
+   or above 65,536. Of a K line: 5, if `frame` is not 16 bytes long; 6 to 9; 1; 4. */
 uint32_t resampler_read_data(const uint8_t *line, size_t line_length, uint8_t *frame, size_t frame_length,
                              uint8_t *samples, size_t samples_length);
 uint32_t resampler_read_start(const uint8_t *line, size_t line_length, uint8_t *frame, size_t frame_length);
@@ -301,6 +313,14 @@ static inline uint32_t resampler_count(const uint8_t *frame) { return resampler_
 static inline const uint8_t *resampler_after_data(const uint8_t *line, const uint8_t *frame)
 {
     return line + RESAMPLER_DATA_LINE_BYTES(resampler_count(frame));
+}
+
+/* Clears the count, so that the next read of a D line accepts any number. Take where the line before ends first:
+   resampler_after_data needs its count. */
+static inline void resampler_any_sequence(uint8_t *frame)
+{
+    for (size_t i = 0; i < 4; i++)
+        frame[RESAMPLER_AT_COUNT + i] = 0;
 }
 
 /* What a read of a K line left in `frame`. */

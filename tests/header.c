@@ -133,10 +133,11 @@ static void lanes(void)
 }
 
 /* Lines of every count, one after another, with what the reads leave and what follows each; bytes past a line or past
-   the samples of one keep what they held. The sample at i is 259 i - 7 in every line. */
+   the samples of one keep what they held. The numbers rise by one, from 03FFFFFF on. The sample at i is 259 i - 7 in
+   every line. */
 static void lines(void)
 {
-    enum { MOST = RESAMPLER_MOST_SAMPLES, START = RESAMPLER_START_LINE_BYTES };
+    enum { MOST = RESAMPLER_MOST_SAMPLES, START = RESAMPLER_START_LINE_BYTES, BEFORE = 0x3FFFFFE };
     static uint8_t text[START + MOST * RESAMPLER_LONGEST_LINE], in[MOST * RESAMPLER_SAMPLE_BYTES];
     static const char k_line[] = "K3212345678FEDCBA98\n";
     uint8_t start[RESAMPLER_START_FIELDS_BYTES], frame[RESAMPLER_DATA_FIELDS_BYTES] = {0};
@@ -148,7 +149,7 @@ static void lines(void)
     check("K line", resampler_write_start(RESAMPLER_CUBIC, UINT64_C(0x212345678), 0xFEDCBA98, text, sizeof text) == 0);
     check("its bytes", sizeof k_line == START + 1 && memcmp(text, k_line, START) == 0 && text[START] == 0xEE);
     for (size_t n = 1; n <= MOST; n++) {
-        check("D line", resampler_write_data((uint32_t)(n * 0x3FFFFFF), in, 2 * n, text + at, sizeof text - at) == 0);
+        check("D line", resampler_write_data((uint32_t)(BEFORE + n), in, 2 * n, text + at, sizeof text - at) == 0);
         at += RESAMPLER_DATA_LINE_BYTES(n);
         check("its end", text[at - 1] == 10 && text[at] == 0xEE);
     }
@@ -162,7 +163,7 @@ static void lines(void)
         memset(samples, 0xEE, sizeof samples);
         check("read of a D line",
               resampler_read_data(line, (size_t)(end - line), frame, sizeof frame, samples, sizeof samples) == 0);
-        check("sequence number", resampler_sequence(frame) == n * 0x3FFFFFF);
+        check("sequence number", resampler_sequence(frame) == BEFORE + n);
         check("count", resampler_count(frame) == n);
         check("samples of a line", memcmp(samples, in, 2 * n) == 0 && (n == MOST || samples[2 * n] == 0xEE));
         line = resampler_after_data(line, frame);
@@ -212,11 +213,12 @@ static void lane_refusals(void)
     check("single feed", resampler_feed(image, n, in, 0, out, 0) == RESAMPLER_BAD_IMAGE);
 }
 
-/* A read of so many bytes that begin with a text, into buffers of these lengths; zeros follow the text. */
+/* A read of so many bytes that begin with a text, into buffers of these lengths; zeros follow the text. No last number
+   is told. */
 static uint32_t read_text(const char *text, size_t length, size_t frame_length, size_t samples_length)
 {
-    static uint8_t line[RESAMPLER_LONGEST_LINE + 1], frame[RESAMPLER_START_FIELDS_BYTES];
-    static uint8_t samples[RESAMPLER_LARGEST_BUFFER + 2];
+    static uint8_t line[RESAMPLER_LONGEST_LINE + 1], samples[RESAMPLER_LARGEST_BUFFER + 2];
+    uint8_t frame[RESAMPLER_START_FIELDS_BYTES] = {0};
     memset(line, '0', sizeof line);
     memcpy(line, text, strlen(text));
     return resampler_read_data(line, length, frame, frame_length, samples, samples_length);
@@ -261,6 +263,62 @@ static void line_refusals(void)
     check("most samples", read_text(good, longest + 1, eight, most) == RESAMPLER_ACCEPTED);
 }
 
+/* Writes a line of two samples with a number, and reads it into a sample buffer of so many bytes, at most 5. A refused
+   read has to leave every byte, and an accepted one the number and the count. */
+static uint32_t read_number(uint32_t number, uint8_t *frame, size_t samples_length)
+{
+    static const uint8_t in[] = {1, 2, 3, 4};
+    uint8_t line[RESAMPLER_DATA_LINE_BYTES(2)], samples[5], before[RESAMPLER_DATA_FIELDS_BYTES];
+    memset(samples, 0xEE, sizeof samples);
+    memcpy(before, frame, sizeof before);
+    check("line with a number", resampler_write_data(number, in, sizeof in, line, sizeof line) == 0);
+    uint32_t answer = resampler_read_data(line, sizeof line, frame, sizeof before, samples, samples_length);
+    if (answer == 0) {
+        check("number accepted", resampler_sequence(frame) == number && resampler_count(frame) == 2);
+        check("its samples", memcmp(samples, in, sizeof in) == 0);
+    } else {
+        check("frame of a refused read", memcmp(frame, before, sizeof before) == 0);
+        check("samples of a refused read", samples[0] == 0xEE && samples[3] == 0xEE);
+    }
+    return answer;
+}
+
+/* Numbers in order and out of it, with one frame that is cleared once. */
+static void order(void)
+{
+    static const uint32_t others[] = {0, 6, 7, 9, 0x107, 0x108, 0x08000000, 0x80000008, 0xFFFFFFFF};
+    const uint8_t *damaged = (const uint8_t *)"D00000000010001FF\n", *good = (const uint8_t *)"D00000000010001FE\n";
+    uint8_t frame[RESAMPLER_DATA_FIELDS_BYTES] = {0}, samples[2];
+    size_t n = RESAMPLER_DATA_LINE_BYTES(1), eight = sizeof frame;
+    uint32_t last = 0xFFFFFFFF;
+    check("first number", read_number(7, frame, 4) == RESAMPLER_ACCEPTED);
+    for (size_t i = 0; i < sizeof others / sizeof *others; i++)
+        check("not the next", read_number(others[i], frame, 4) == RESAMPLER_BAD_SEQUENCE);
+    check("next number", read_number(8, frame, 4) == RESAMPLER_ACCEPTED);
+    check("order before short samples", read_number(10, frame, 2) == RESAMPLER_BAD_SEQUENCE);
+    check("order before odd samples", read_number(10, frame, 5) == RESAMPLER_BAD_SEQUENCE);
+    check("short samples", read_number(9, frame, 2) == RESAMPLER_SHORT_BUFFER);
+    check("odd samples", read_number(9, frame, 5) == RESAMPLER_BAD_BUFFER);
+    check("the same with space", read_number(9, frame, 4) == RESAMPLER_ACCEPTED);
+    check("check before order", resampler_read_data(damaged, n, frame, eight, samples, 2) == RESAMPLER_BAD_CHECK);
+    check("fields before order", resampler_read_data(good, n, frame, eight - 1, samples, 2) == RESAMPLER_BAD_IMAGE);
+    check("order", resampler_read_data(good, n, frame, eight, samples, 2) == RESAMPLER_BAD_SEQUENCE);
+    resampler_any_sequence(frame);
+    check("count cleared", resampler_sequence(frame) == 9 && resampler_count(frame) == 0);
+    check("any number", read_number(last - 1, frame, 4) == RESAMPLER_ACCEPTED);
+    check("largest number", read_number(last, frame, 4) == RESAMPLER_ACCEPTED);
+    check("0 after the largest", read_number(0, frame, 4) == RESAMPLER_BAD_SEQUENCE);
+    check("the largest again", read_number(last, frame, 4) == RESAMPLER_BAD_SEQUENCE);
+    resampler_any_sequence(frame);
+    check("0 as any number", read_number(0, frame, 4) == RESAMPLER_ACCEPTED);
+    for (size_t i = 0; i < 4; i++) { /* any bit of the count says that there was a number */
+        resampler_any_sequence(frame);
+        frame[RESAMPLER_AT_COUNT + i] = 0x80;
+        check("other counts", read_number(2, frame, 4) == RESAMPLER_BAD_SEQUENCE);
+    }
+    check("next after other counts", read_number(1, frame, 4) == RESAMPLER_ACCEPTED);
+}
+
 /* The names of the kernels, in document 01's order. */
 static void kernels(void)
 {
@@ -278,6 +336,7 @@ int main(void)
     refusals();
     lane_refusals();
     line_refusals();
+    order();
     kernels();
     return failed;
 }

@@ -92,12 +92,29 @@ uint32_t __wrap_resampler_write_data(uint32_t sequence, const uint8_t *samples, 
     return result;
 }
 
+/* Whether a line has the number 0, and the largest was told. */
+static int wraps(const uint8_t *line, const uint8_t *frame)
+{
+    return memcmp(line + 1, "00000000", 8) == 0 && resampler_sequence(frame) == UINT32_MAX;
+}
+
 uint32_t __wrap_resampler_read_data(const uint8_t *line, size_t line_length, uint8_t *frame, size_t frame_length,
                                     uint8_t *samples, size_t samples_length)
 {
     static int made;
+    uint8_t any[RESAMPLER_DATA_FIELDS_BYTES];
     uint32_t result = __real_resampler_read_data(line, line_length, frame, frame_length, samples, samples_length);
     if (planted("line fields") && result == RESAMPLER_BAD_CHECK && !made++) /* written, though the line is refused */
         frame[RESAMPLER_AT_COUNT] ^= 1;
+    if (result != RESAMPLER_BAD_SEQUENCE || made)
+        return result;
+    if (planted("line order") || (planted("line wrap") && wraps(line, frame))) { /* accepted, though not the next */
+        made = 1;
+        memcpy(any, frame, sizeof any);
+        resampler_any_sequence(any);
+        result = __real_resampler_read_data(line, line_length, any, sizeof any, samples, samples_length);
+        if (result == 0)
+            memcpy(frame, any, sizeof any);
+    }
     return result;
 }

@@ -1,6 +1,6 @@
 //! The frame of the C host: the fields of a line that was read, low byte first.
 
-use crate::frames::{Data, Start};
+use crate::frames::{Data, Last, Start};
 use crate::image::{self, Field};
 
 /// The bytes of a D line's frame, and of a K line's.
@@ -17,12 +17,26 @@ pub fn start_fields() -> Vec<Field> {
 }
 
 pub fn encode_data(data: &Data) -> Vec<u8> {
-    [data.sequence, data.samples.len() as u32].map(u32::to_le_bytes).concat()
+    encode(data.sequence, data.samples.len() as u32)
+}
+
+/// The frame of a D line with this number and this count.
+pub fn encode(sequence: u32, count: u32) -> Vec<u8> {
+    [sequence, count].map(u32::to_le_bytes).concat()
 }
 
 /// The number and the count of a D line.
 pub fn decode_data(frame: &[u8]) -> (u32, usize) {
     (image::little(&frame[..4]) as u32, image::little(&frame[4..]) as usize)
+}
+
+/// What a D line's frame tells the next read: a count of 0, which no line has, says that there was
+/// no last number, whatever stands beside it.
+pub fn told(frame: &[u8]) -> Last {
+    match decode_data(frame) {
+        (_, 0) => None,
+        (sequence, _) => Some(sequence),
+    }
 }
 
 pub fn encode_start(start: &Start) -> Vec<u8> {

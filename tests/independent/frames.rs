@@ -1,4 +1,4 @@
-//! The reader of frame lines. Document 01, "Frame lines".
+//! The reader of frame lines. Document 01, "Frame lines", and request U4.
 
 /// "ending in byte 10, which must be among the first 270 bytes"
 pub const LONGEST_LINE: usize = 270;
@@ -30,6 +30,14 @@ pub struct Start {
 pub struct Data {
     pub sequence: u32,
     pub samples: Vec<i16>,
+}
+
+/// The last number accepted, "or that there was none".
+pub type Last = Option<u32>;
+
+/// "with none, any number is accepted"; else only the next one, and "No number follows FFFFFFFF".
+pub fn follows(sequence: u32, last: Last) -> bool {
+    last.map_or(true, |last| last as u64 + 1 == sequence as u64)
 }
 
 /// Refusals 6, 7 and 8, which both kinds of line share.
@@ -69,8 +77,8 @@ pub fn read_k(bytes: &[u8]) -> Result<(Start, &[u8]), u32> {
 
 /// "`D`, 8 digits sequence number, 2 digits count (1 to 64), 4 digits for each sample in two's
 /// complement, 2 digits check. Each pair of digits after `D` is a byte; these bytes, check
-/// included, sum to 0 modulo 256."
-pub fn read_d(bytes: &[u8], room: usize) -> Result<(Data, &[u8]), u32> {
+/// included, sum to 0 modulo 256." Refusal 15 comes "after 10 and before 11".
+pub fn read_d(bytes: &[u8], last: Last, room: usize) -> Result<(Data, &[u8]), u32> {
     let (digits, rest) = digits(bytes, b'D')?;
     if digits.len() < 12 {
         return Err(9);
@@ -82,10 +90,14 @@ pub fn read_d(bytes: &[u8], room: usize) -> Result<(Data, &[u8]), u32> {
     if digits.chunks(2).map(number).sum::<u64>() % 256 != 0 {
         return Err(10);
     }
+    let sequence = number(&digits[..8]) as u32;
+    if !follows(sequence, last) {
+        return Err(15);
+    }
     if room < count {
         return Err(11);
     }
     let sample = |four: &[u32]| number(four) as u16 as i16;
     let samples = digits[10..10 + 4 * count].chunks(4).map(sample).collect();
-    Ok((Data { sequence: number(&digits[..8]) as u32, samples }, rest))
+    Ok((Data { sequence, samples }, rest))
 }

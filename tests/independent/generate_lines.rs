@@ -1,6 +1,6 @@
 //! Random arguments for the calls on frame lines: fields, lines, buffers and their faults.
 
-use crate::frame_image;
+use crate::frame_image::{self, DATA, START};
 use crate::frames::{self, Data, Start, LONGEST_LINE, MOST_SAMPLES};
 use crate::generate;
 use crate::host::{self, Call, LARGEST_BUFFER};
@@ -28,11 +28,12 @@ pub fn call(random: &mut Random) -> Call {
             let data = good_data(random);
             let places = places(random, data.samples.len());
             let line = lent(random, lines::data_line(&data));
-            host::read_data(line, frame(random, frame_image::DATA), places)
+            host::read_data(line, data_frame(random, data.sequence), places)
         }
         _ => {
             let line = lines::start_line(&start(random));
-            host::read_start(lent(random, line), frame(random, frame_image::START))
+            let frame = if random.one_in(16) { wrong_frame(random, START) } else { START };
+            host::read_start(lent(random, line), contents(random, frame))
         }
     }
 }
@@ -130,10 +131,53 @@ fn lent(random: &mut Random, mut line: Vec<u8>) -> Vec<u8> {
     line
 }
 
-/// A frame, now and then of another length than it has to have.
-fn frame(random: &mut Random, right: usize) -> Vec<u8> {
-    let length = if random.one_in(16) { wrong_frame(random, right) } else { right };
-    contents(random, length)
+/// A frame for a line with this number: mostly one that the line follows, and now and then of another
+/// length than it has to have.
+fn data_frame(random: &mut Random, sequence: u32) -> Vec<u8> {
+    match random.below(16) {
+        0 => {
+            let length = wrong_frame(random, DATA);
+            contents(random, length)
+        }
+        1..=4 => not_before(random, sequence),
+        _ => before(random, sequence),
+    }
+}
+
+/// A frame that a line with this number follows: the number before it, or none, with anything beside
+/// the count of 0.
+pub fn before(random: &mut Random, sequence: u32) -> Vec<u8> {
+    match sequence.checked_sub(1) {
+        Some(last) if !random.one_in(3) => frame_image::encode(last, count(random)),
+        _ => frame_image::encode(near(random, sequence), 0),
+    }
+}
+
+/// A frame that it does not follow.
+pub fn not_before(random: &mut Random, sequence: u32) -> Vec<u8> {
+    let last = near(random, sequence);
+    let last = if last.checked_add(1) == Some(sequence) { sequence } else { last };
+    frame_image::encode(last, count(random))
+}
+
+/// A number about this one, or like the one before it but for a bit or the order of its bytes.
+fn near(random: &mut Random, sequence: u32) -> u32 {
+    let before = sequence.wrapping_sub(1);
+    match random.below(8) {
+        0 => sequence,
+        1..=3 => sequence.wrapping_add(random.below(7) as u32).wrapping_sub(4),
+        4 => before ^ 1 << random.below(32),
+        5 => before.swap_bytes(),
+        6 => random.pick(&[0, u32::MAX]),
+        _ => random.next() as u32,
+    }
+}
+
+/// A count other than 0, every second one no line's.
+fn count(random: &mut Random) -> u32 {
+    let (line, any) = (1 + random.below(64) as u32, (random.next() as u32).max(1));
+    let other = random.pick(&[65, 255, 1 << 8, 1 << 16, 1 << 24, 1 << 31, u32::MAX, any]);
+    random.pick(&[line, other])
 }
 
 /// Another length than the right one.
@@ -174,7 +218,8 @@ pub fn sets<const N: usize>(refusals: [u32; N]) -> impl Iterator<Item = Vec<Faul
 /// A read of a D line with so many samples and with these faults.
 pub fn faulty_data(random: &mut Random, count: usize, faults: &[Fault]) -> Call {
     let has = |refusal: u32| faults.contains(&(refusal, true));
-    let mut line = lines::data_line(&data(random, count));
+    let data = data(random, count);
+    let mut line = lines::data_line(&data);
     if has(10) {
         let place = random.pick(&[1, 8, 11, line.len() - 3, line.len() - 2]);
         line[place] = if line[place] == b'0' { b'1' } else { b'0' };
@@ -184,9 +229,12 @@ pub fn faulty_data(random: &mut Random, count: usize, faults: &[Fault]) -> Call 
     if has(12) {
         places = if has(11) || random.one_in(2) { places + 1 } else { LARGEST_BUFFER + 2 };
     }
-    let right = frame_image::DATA;
-    let frame = if has(5) { wrong_frame(random, right) } else { right };
-    host::read_data(line, contents(random, frame), contents(random, places))
+    let told = if has(15) { not_before } else { before };
+    let mut frame = told(random, data.sequence);
+    if has(5) {
+        frame.resize(wrong_frame(random, DATA), 0xee);
+    }
+    host::read_data(line, frame, contents(random, places))
 }
 
 /// A read of a K line with these faults.
@@ -201,8 +249,7 @@ pub fn faulty_start(random: &mut Random, faults: &[Fault]) -> Call {
     }
     let mut line = lines::start_line(&start);
     spoil(random, &mut line, &has);
-    let right = frame_image::START;
-    let frame = if has(5) { wrong_frame(random, right) } else { right };
+    let frame = if has(5) { wrong_frame(random, START) } else { START };
     host::read_start(line, contents(random, frame))
 }
 

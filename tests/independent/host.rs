@@ -143,7 +143,7 @@ rows! { |n, b|
     write_start, &[Whole; 3], &[("line", Written)], &[0, 1, 4, 14], start_written,
         resampler_write_start(n[0] as u32 => u32, n[1] => u64, n[2] as u32 => u32,
             b[0].at => *mut u8, b[0].length => usize);
-    read_data, &[], READ_DATA, &[0, 5, 6, 7, 8, 9, 10, 11, 12], data_read,
+    read_data, &[], READ_DATA, &[0, 5, 6, 7, 8, 9, 10, 11, 12, 15], data_read,
         resampler_read_data(b[0].at => *const u8, b[0].length => usize, b[1].at => *mut u8,
             b[1].length => usize, b[2].at => *mut u8, b[2].length => usize);
     read_start, &[], READ_START, &[0, 1, 4, 5, 6, 7, 8, 9], start_read,
@@ -328,12 +328,12 @@ pub fn start_of(write: &Call) -> Start {
     Start { kernel: kernel as u32, word, phase: phase as u32 }
 }
 
-/// Refusal 5, "tested first as the lowest", is of the frame's length; then 6 to 11, those of the
-/// reader; then 12. What the frame holds is not looked at.
+/// Refusal 5, "tested first as the lowest", is of the frame's length; then 6 to 10, 15 and 11, those
+/// of the reader, which the frame tells the last number; then 12.
 fn data_read(call: &Call) -> Result<Vec<Vec<u8>>, u32> {
     let [line, frame, places] = &call.buffers[..] else { panic!("a read of data has three") };
     check_frame(frame, frame_image::DATA)?;
-    let (data, _) = frames::read_d(line, places.len() / 2)?;
+    let (data, _) = frames::read_d(line, frame_image::told(frame), places.len() / 2)?;
     check_samples(places)?;
     let frame = frame_image::encode_data(&data);
     Ok(vec![line.clone(), frame, over(bytes(&data.samples), places)])

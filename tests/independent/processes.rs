@@ -19,7 +19,7 @@ const LIMIT: Duration = Duration::from_secs(60);
 const LARGEST: usize = 400_000;
 
 /// The ends that there have to be among the runs.
-const ENDS: [&str; 8] = ["E", "R01", "R04", "R06", "R07", "R08", "R09", "R10"];
+const ENDS: [&str; 9] = ["E", "R01", "R04", "R06", "R07", "R08", "R09", "R10", "R15"];
 
 /// Runs the program on every input and prints what was compared.
 pub fn run(command: &[&str]) -> Result<(), String> {
@@ -107,10 +107,30 @@ fn program_outputs(input: &[u8]) -> usize {
     (64 * lines << 32) / word.unwrap_or(1 << 32).max(1)
 }
 
-/// A K line and D lines that are accepted, but now and then for the kernel or the word.
+/// The numbers of so many lines: they rise by one, and after FFFFFFFF comes 0, which is refused. One
+/// time in five two are swapped, or one is repeated, left out or drawn.
+pub fn numbers(random: &mut Random, lines: usize) -> Vec<u32> {
+    let first = if random.one_in(2) { 0 } else { generate::phase(random) };
+    let mut numbers = (0..=lines as u32).map(|n| first.wrapping_add(n)).collect::<Vec<u32>>();
+    if lines > 0 && random.one_in(5) {
+        let place = random.below(lines as u64) as usize;
+        match random.below(4) {
+            0 => numbers.swap(place, place + 1),
+            1 => numbers.insert(place, numbers[place]),
+            2 => {
+                numbers.remove(place);
+            }
+            _ => numbers[place] = random.next() as u32,
+        }
+    }
+    numbers.truncate(lines);
+    numbers
+}
+
+/// A K line and D lines that are accepted, but now and then for the kernel, the word or a number.
 fn stream(random: &mut Random) -> Vec<u8> {
     let kernel = if random.one_in(20) { random.below(16) } else { random.below(4) } as u32;
-    let lines = random.below(12);
+    let lines = random.below(12) as usize;
     let word = match random.below(20) {
         0 => random.next() & 0xfffffffff,
         1 => random.pick(&[0, (1 << 34) + 1]),
@@ -121,10 +141,9 @@ fn stream(random: &mut Random) -> Vec<u8> {
     let phase = generate::phase(random);
     let start = Start { kernel, word, phase };
     let mut text = lines::start_line(&start);
-    for number in 0..lines {
+    for sequence in numbers(random, lines) {
         let any = 1 + random.below(64) as usize;
         let count = random.pick(&[1, 2, 3, 64, any]);
-        let sequence = if random.one_in(2) { number as u32 } else { random.next() as u32 };
         let samples = generate::samples(random, count);
         text.extend(lines::data_line(&Data { sequence, samples }));
     }

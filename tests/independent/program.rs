@@ -1,4 +1,4 @@
-//! The program, from its input bytes to its output bytes. Document 01, "Frame lines".
+//! The program, from its input bytes to its output bytes. Document 01, "Frame lines", and request U4.
 
 use crate::frames;
 use crate::settings::Setting;
@@ -23,14 +23,15 @@ pub fn run(input: &[u8]) -> Vec<u8> {
     text.into_bytes()
 }
 
+/// Each D line is read with the number of the one before it told, the first with none.
 fn lines(input: &[u8], text: &mut String) -> Result<Totals, u32> {
     let (start, mut rest) = frames::read_k(input)?;
     let mut state = state::start(start.kernel, Setting::Word(start.word), start.phase)?;
-    let mut totals = Totals::default();
+    let (mut totals, mut last) = (Totals::default(), None);
     while !rest.is_empty() {
-        let (data, after) = frames::read_d(rest, frames::MOST_SAMPLES)?;
+        let (data, after) = frames::read_d(rest, last, frames::MOST_SAMPLES)?;
         state = convert(state, &data.samples, text, &mut totals)?;
-        rest = after;
+        (rest, last) = (after, Some(data.sequence));
     }
     Ok(totals)
 }

@@ -1,7 +1,8 @@
 //! The settled examples of document 01, starred or not, the printed examples of the program, and
-//! what requests U1 to U3 settle, run on the implementation before every command.
+//! what requests U1 to U4 settle, run on the implementation before every command.
 
-use crate::frames::Start;
+use crate::frame_image;
+use crate::frames::{self, Start};
 use crate::host;
 use crate::image;
 use crate::judge;
@@ -29,6 +30,7 @@ pub fn run() -> Result<usize, String> {
     examples.extend(lanes());
     examples.extend(lines());
     examples.extend(table());
+    examples.extend(order());
     examples.extend(facts());
     match examples.iter().find(|(_, holds)| !holds) {
         Some((name, _)) => Err(format!("settled example does not hold: {name}")),
@@ -190,7 +192,8 @@ fn lines() -> Vec<Example> {
         host::answer(&host::write_start(&Start { kernel, word, phase: 0 }, vec![0xee; room]))
     };
     let read = |line: &[u8], room| {
-        host::answer(&host::read_data(line.to_vec(), vec![0xee; 8], vec![0xee; room])).buffers
+        let frame = frame_image::encode(0xeeeeeeee, 0);
+        host::answer(&host::read_data(line.to_vec(), frame, vec![0xee; room])).buffers
     };
     let counts = [0, 65].map(|count| data(&vec![0; 2 * count], 300).result);
     let check = data(&host::bytes(&[-256]), 18).buffers.remove(1);
@@ -262,6 +265,45 @@ fn table() -> Vec<Example> {
         ("each printed case occurs", (1..=6).all(occurs)),
         ("register 0.7, word 0.2: case 3, no advance", example(2, 3)),
         ("register 0.7, word 0.4: case 1, no advance", example(4, 1)),
+    ]
+}
+
+/// Request U4, on lines of three samples: which number follows which, the order of the refusals,
+/// and what the program makes of them.
+fn order() -> Vec<Example> {
+    let line = |number, wrong: bool| {
+        let write = host::write_data(number, host::bytes(&[0, 100, 40]), vec![0xee; 26]);
+        let mut line = host::answer(&write).buffers.remove(1);
+        if wrong {
+            line[24] = if line[24] == b'0' { b'1' } else { b'0' };
+        }
+        line
+    };
+    let answer = |last, number, wrong, room| {
+        frames::read_d(&line(number, wrong), last, room).err().unwrap_or(0)
+    };
+    let read = |last, number| answer(last, number, false, 3);
+    let top = u32::MAX;
+    let input = |numbers: &[u32]| {
+        let mut input = b"K008000000000000000\n".to_vec();
+        numbers.iter().for_each(|&number| input.extend(line(number, false)));
+        program::run(&input)
+    };
+    let ended = |numbers: &[u32]| input(numbers).iter().rev().nth(33) == Some(&b'E');
+    vec![
+        ("with none any number is accepted", [0, 1, 8, top].map(|n| read(None, n)) == [0; 4]),
+        ("only 8 follows 7", [0, 6, 7, 8, 9].map(|n| read(Some(7), n)) == [15, 15, 15, 0, 15]),
+        ("no number follows FFFFFFFF", [0, 1, top].map(|n| read(Some(top), n)) == [15; 3]),
+        ("0 follows no number", [0, 1, top].map(|last| read(Some(last), 0)) == [15; 3]),
+        ("10 before 15", answer(Some(7), 7, true, 3) == 10),
+        ("15 before 11", answer(Some(7), 7, false, 2) == 15),
+        ("11 where the number is the next", answer(Some(7), 8, false, 2) == 11),
+        ("the program: lines numbered by one end with E", ended(&[7, 8, 9])),
+        (
+            "the program: of 7, 9, 8 the outputs of 7, and R15",
+            input(&[7, 9, 8]) == b"0000\n0032\n0064\n0046\nR15\n",
+        ),
+        ("the program: FFFFFFFF may come first", ended(&[top])),
     ]
 }
 

@@ -3,6 +3,7 @@
 // The file `stdout` has what the documents say. The starred examples are one theorem, of the crate `promises`.
 use converter_spec::End;
 use converter_state::State;
+use frames_spec::Last;
 use frames_spec::WrittenLine;
 use libc::STDOUT_FILENO;
 use oscillator_spec::Setting;
@@ -160,15 +161,15 @@ fn three_point_steps() {
     three_point_step(b"register 0.7, word 0.4", 3006477107, 1717986918);
 }
 
-// A D line of two samples and the D that follows it, read by both calls.
-fn data_line(description: &[u8], samples: &mut [i16]) {
+// A D line of two samples and the D that follows it, read by both calls, which are told the same.
+fn data_line(description: &[u8], last: Last, samples: &mut [i16]) {
     let line: &[u8] = b"DFEDCBA980280007FFFD4\nD";
     io::write_all(STDOUT_FILENO, description);
-    let d = frames_read::read_data(line, samples);
+    let d = frames_read::read_data(line, last, samples);
     number(b": refusal ", d.refusal as u64);
     number(b", sequence ", d.sequence as u64);
     number(b", count ", d.count as u64);
-    let rest = frames_read::rest_data(line, samples);
+    let rest = frames_read::rest_data(line, last, samples);
     number(b", bytes left ", rest.len() as u64);
     io::write_all(STDOUT_FILENO, b"\n");
 }
@@ -196,12 +197,39 @@ fn places(samples: &[i16; 3]) {
 
 fn short_buffer() {
     let mut samples = [7i16; 1];
-    data_line(b"D line, one place", &mut samples);
+    data_line(b"D line, one place", Last::None, &mut samples);
+    data_line(
+        b"D line, one place, told its own number",
+        Last::Number(4275878552),
+        &mut samples,
+    );
 }
 
 fn long_buffer() {
     let mut samples = [7i16; 3];
-    data_line(b"D line, three places", &mut samples);
+    data_line(b"D line, three places", Last::None, &mut samples);
+    places(&samples);
+}
+
+// The same line for readers that are told a number: its own, the one after it and the one before.
+fn told_buffer() {
+    let mut samples = [7i16; 3];
+    data_line(
+        b"D line, told its own number",
+        Last::Number(4275878552),
+        &mut samples,
+    );
+    data_line(
+        b"D line, told the number after it",
+        Last::Number(4275878553),
+        &mut samples,
+    );
+    places(&samples);
+    data_line(
+        b"D line, told the number before it",
+        Last::Number(4275878551),
+        &mut samples,
+    );
     places(&samples);
 }
 
@@ -259,6 +287,7 @@ fn main() {
     three_point_steps();
     short_buffer();
     long_buffer();
+    told_buffer();
     start_lines();
     written_data();
     written_starts();

@@ -8,6 +8,7 @@ use frames_spec::COUNT_LIMIT;
 use frames_spec::DataLine;
 use frames_spec::FRAME_DIGITS;
 use frames_spec::FRAME_LENGTH;
+use frames_spec::Last;
 use frames_spec::SAMPLE_DIGITS;
 ghost use mathlib.Core.Path.{_≡_};
 ghost use mathlib.Core.Bool.{true};
@@ -15,7 +16,7 @@ ghost use Prim.Native.Nat.{_+_, _*_, _%_, _≤_};
 ghost use lib.ListN.{length};
 ghost use Rattle.bytes_spec.specs.Overwritten.{over};
 ghost use Rattle.frames_spec.specs.Line.{allDigits, byteSum, rest, used};
-ghost use Rattle.frames_spec.specs.Frame.{frameOf, frameSamples, dataLine, dataAnswer, DataRight};
+ghost use Rattle.frames_spec.specs.Frame.{isNext, frameOf, frameSamples, dataLine, dataAnswer, DataRight};
 
 // Where byte 10 would stand in a D line without samples.
 const FRAME_END: usize = 13;
@@ -30,10 +31,25 @@ fn refused(refusal: u8) -> DataLine
     }
 }
 
-// What the digits of a D line hold, whose bytes have a sum, for a sample buffer with so much space.
-fn judge_digits(ds: &[u8], sum: u8, space: usize) -> DataLine
+// Whether a number follows the last one. The sum has 64 bits, so that it does not wrap.
+fn is_next(last: Last, sequence: u32) -> bool
+    ensures { λ r. ⌜ r ≡ isNext last sequence ⌝ }
+{
+    match last {
+        Last::None => {}
+        Last::Number(n) => {
+            if sequence as u64 != n as u64 + 1 {
+                return false;
+            }
+        }
+    }
+    true
+}
+
+// What the digits of a D line hold, whose bytes have a sum, for a reader that is told the last number and has a sample buffer with so much space.
+fn judge_digits(ds: &[u8], sum: u8, last: Last, space: usize) -> DataLine
     requires { ⌜ (sum ≡ byteSum (now ds) % 256) × (allDigits (now ds) ≡ true) ⌝ }
-    ensures { λ r. ⌜ r ≡ dataAnswer (frameOf space (now (ds .entry))) ⌝ }
+    ensures { λ r. ⌜ r ≡ dataAnswer (frameOf last space (now (ds .entry))) ⌝ }
 {
     if ds.len() < FRAME_DIGITS {
         return refused(9);
@@ -51,10 +67,13 @@ fn judge_digits(ds: &[u8], sum: u8, space: usize) -> DataLine
     if sum != 0 {
         return refused(10);
     }
+    let sequence = number_of_eight(&ds[..8]);
+    if !is_next(last, sequence) {
+        return refused(15);
+    }
     if space < count {
         return refused(11);
     }
-    let sequence = number_of_eight(&ds[..8]);
     DataLine {
         sequence: sequence,
         count: count,
@@ -62,16 +81,16 @@ fn judge_digits(ds: &[u8], sum: u8, space: usize) -> DataLine
     }
 }
 
-// What a D line holds, for a sample buffer with so much space.
-fn judge(line: &[u8], space: usize) -> DataLine
-    ensures { λ r. ⌜ r ≡ dataAnswer (dataLine space (now (line .entry))) ⌝ }
+// What a D line holds, for a reader that is told the last number and has a sample buffer with so much space.
+fn judge(line: &[u8], last: Last, space: usize) -> DataLine
+    ensures { λ r. ⌜ r ≡ dataAnswer (dataLine last space (now (line .entry))) ⌝ }
 {
     let f = read_front(line, b'D');
     if f.refusal != 0 {
         return refused(f.refusal);
     }
     let end = f.end;
-    judge_digits(&line[1..end], f.sum, space)
+    judge_digits(&line[1..end], f.sum, last, space)
 }
 
 // Puts the samples of the digits of a D line at the front of the buffer.
@@ -88,11 +107,11 @@ fn fill(ds: &[u8], count: usize, samples: &mut [i16])
     }
 }
 
-// Reads a D line: returns its fields, and fills the first `count` places of the sample buffer.
-pub fn read_data(line: &[u8], samples: &mut [i16]) -> DataLine
-    ensures { λ r. ⌜ DataRight (now (line .entry)) (now (samples .entry)) r (now (samples .exit)) ⌝ }
+// Reads a D line, told the last number that was accepted: returns its fields, and fills the first `count` places of the sample buffer.
+pub fn read_data(line: &[u8], last: Last, samples: &mut [i16]) -> DataLine
+    ensures { λ r. ⌜ DataRight (now (line .entry)) last (now (samples .entry)) r (now (samples .exit)) ⌝ }
 {
-    let d = judge(line, samples.len());
+    let d = judge(line, last, samples.len());
     if d.refusal == 0 {
         let count = d.count;
         let end = FRAME_END + count * SAMPLE_DIGITS;
@@ -101,14 +120,14 @@ pub fn read_data(line: &[u8], samples: &mut [i16]) -> DataLine
     d
 }
 
-// The bytes that follow the D line, which are the caller's; all of them where it is refused.
-pub fn rest_data<'a>(line: &'a [u8], samples: &[i16]) -> &'a [u8]
-    ensures { λ r. ⌜ now r ≡ rest (dataLine (length (now (samples .entry))) (now (line .entry))) (now (line .entry)) ⌝ }
-    ensures { λ r. ⌜ (r .ptr .0 ≡ line .entry .ptr .0) × (r .ptr .1 ≡ line .entry .ptr .1 + used (dataLine (length (now (samples .entry))) (now (line .entry))) (now (line .entry))) ⌝ }
+// The bytes that follow the D line, which are the caller's; all of them where it is refused. It is told what the first call was.
+pub fn rest_data<'a>(line: &'a [u8], last: Last, samples: &[i16]) -> &'a [u8]
+    ensures { λ r. ⌜ now r ≡ rest (dataLine last (length (now (samples .entry))) (now (line .entry))) (now (line .entry)) ⌝ }
+    ensures { λ r. ⌜ (r .ptr .0 ≡ line .entry .ptr .0) × (r .ptr .1 ≡ line .entry .ptr .1 + used (dataLine last (length (now (samples .entry))) (now (line .entry))) (now (line .entry))) ⌝ }
 {
-    let d = judge(line, samples.len());
-    if d.refusal != 0 {
+    let read = judge(line, last, samples.len());
+    if read.refusal != 0 {
         return line;
     }
-    tail(line, FRAME_LENGTH + d.count * SAMPLE_DIGITS)
+    tail(line, FRAME_LENGTH + read.count * SAMPLE_DIGITS)
 }

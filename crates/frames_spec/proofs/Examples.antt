@@ -1,13 +1,15 @@
 -- Lines read and written by the definitions, by computation: what the program `resample` does not show of them (the fields as they are, refusal 11, the second call, and writing).
 use mathlib.Core.Path.{_≡_, refl}
+use mathlib.Core.Bool.{true, false}
 use mathlib.Core.List.{List, [], _∷_, flatMap}
 use Prim.Native.Nat.{ℕ, _^_}
 use lib.IntN.{pos, negsuc, ℤ}
 use lib.ListN.{length, replicate}
 use Rattle.oscillator_spec.specs.Word.{isWord}
 use Rattle.converter_state.specs.Start.{isKernel}
+use Rattle.frames_spec.specs.declared.answers.Last.the-variants as last
 use Rattle.frames_spec.specs.Line.{read, refused, rest, before10, lineEnd, hasEnd, digitValue, allDigits, numberAfter, byteSum, afterLetter, lineDigits, digitOf, digitsOf}
-use Rattle.frames_spec.specs.Frame.{frameSamples, hasLength, checkHolds, frameOf, dataLine, Frame}
+use Rattle.frames_spec.specs.Frame.{frameSamples, hasLength, checkHolds, isNext, frameOf, dataLine, Frame}
 use Rattle.frames_spec.specs.StartLine.{startOf, startLine, Start}
 use Rattle.frames_spec.specs.Written.{sampleDigits, frameDigits, checkOf, dataBytes, startBytes, dataRefusal, startRefusal, writeAnswer, writeLeaves}
 
@@ -15,21 +17,44 @@ use Rattle.frames_spec.specs.Written.{sampleDigits, frameDigits, checkOf
 abbrev line : List ℕ
 line = 68 ∷ 70 ∷ 69 ∷ 68 ∷ 67 ∷ 66 ∷ 65 ∷ 57 ∷ 56 ∷ 48 ∷ 50 ∷ 56 ∷ 48 ∷ 48 ∷ 48 ∷ 55 ∷ 70 ∷ 70 ∷ 70 ∷ 68 ∷ 52 ∷ 10 ∷ 68 ∷ []
 
-pub fields : dataLine 2 line ≡ read (record { sequence = 4275878552; samples = negsuc 32767 ∷ pos 32767 ∷ [] })
-unfolding before10 lineEnd hasEnd digitValue allDigits numberAfter byteSum afterLetter lineDigits frameSamples hasLength checkHolds frameOf dataLine
+pub fields : dataLine last.None 2 line ≡ read (record { sequence = 4275878552; samples = negsuc 32767 ∷ pos 32767 ∷ [] })
+unfolding before10 lineEnd hasEnd digitValue allDigits numberAfter byteSum afterLetter lineDigits frameSamples hasLength checkHolds isNext frameOf dataLine
 fields = refl
 
-pub short-buffer : dataLine 1 line ≡ refused 11
-unfolding before10 lineEnd hasEnd digitValue allDigits numberAfter byteSum afterLetter lineDigits frameSamples hasLength checkHolds frameOf dataLine
+pub short-buffer : dataLine last.None 1 line ≡ refused 11
+unfolding before10 lineEnd hasEnd digitValue allDigits numberAfter byteSum afterLetter lineDigits frameSamples hasLength checkHolds isNext frameOf dataLine
 short-buffer = refl
 
-pub follows : rest (dataLine 2 line) line ≡ 68 ∷ []
-unfolding before10 lineEnd hasEnd digitValue allDigits numberAfter byteSum afterLetter lineDigits frameSamples hasLength checkHolds frameOf dataLine
+pub follows : rest (dataLine last.None 2 line) line ≡ 68 ∷ []
+unfolding before10 lineEnd hasEnd digitValue allDigits numberAfter byteSum afterLetter lineDigits frameSamples hasLength checkHolds isNext frameOf dataLine
 follows = refl
 
-pub whole-slice : rest (dataLine 1 line) line ≡ line
-unfolding before10 lineEnd hasEnd digitValue allDigits numberAfter byteSum afterLetter lineDigits frameSamples hasLength checkHolds frameOf dataLine
+pub whole-slice : rest (dataLine last.None 1 line) line ≡ line
+unfolding before10 lineEnd hasEnd digitValue allDigits numberAfter byteSum afterLetter lineDigits frameSamples hasLength checkHolds isNext frameOf dataLine
 whole-slice = refl
+
+-- ---- which number follows
+-- after none every number, after 7 only 8, after FFFFFFFF none
+pub which-follow : (isNext last.None 0 ≡ true) × (isNext last.None 0xFFFFFFFF ≡ true)
+    × (isNext (last.Number 7) 8 ≡ true) × (isNext (last.Number 7) 6 ≡ false) × (isNext (last.Number 7) 7 ≡ false) × (isNext (last.Number 7) 9 ≡ false)
+    × (isNext (last.Number 0xFFFFFFFE) 0xFFFFFFFF ≡ true) × (isNext (last.Number 0xFFFFFFFF) 0 ≡ false) × (isNext (last.Number 0xFFFFFFFF) 0xFFFFFFFF ≡ false)
+unfolding isNext
+which-follow = (refl, refl, refl, refl, refl, refl, refl, refl, refl)
+
+-- told the number before it, the line is read; told its own number or the one after, it is 15, and in too short a buffer too, where the second call gives the whole slice
+pub told-before : dataLine (last.Number 0xFEDCBA97) 2 line ≡ dataLine last.None 2 line
+unfolding before10 lineEnd hasEnd digitValue allDigits numberAfter byteSum afterLetter lineDigits frameSamples hasLength checkHolds isNext frameOf dataLine
+told-before = refl
+
+pub told-other : (dataLine (last.Number 0xFEDCBA98) 2 line ≡ refused 15) × (dataLine (last.Number 0xFEDCBA99) 2 line ≡ refused 15)
+    × (dataLine (last.Number 0xFEDCBA98) 1 line ≡ refused 15) × (rest (dataLine (last.Number 0xFEDCBA98) 2 line) line ≡ line)
+unfolding before10 lineEnd hasEnd digitValue allDigits numberAfter byteSum afterLetter lineDigits frameSamples hasLength checkHolds isNext frameOf dataLine
+told-other = (refl, refl, refl, refl)
+
+-- with 65 in the place of 66 the check fails: 10 comes before 15
+pub check-and-order : dataLine (last.Number 0) 2 (68 ∷ 70 ∷ 69 ∷ 68 ∷ 67 ∷ 65 ∷ 65 ∷ 57 ∷ 56 ∷ 48 ∷ 50 ∷ 56 ∷ 48 ∷ 48 ∷ 48 ∷ 55 ∷ 70 ∷ 70 ∷ 70 ∷ 68 ∷ 52 ∷ 10 ∷ []) ≡ refused 10
+unfolding before10 lineEnd hasEnd digitValue allDigits numberAfter byteSum afterLetter lineDigits frameSamples hasLength checkHolds isNext frameOf dataLine
+check-and-order = refl
 
 -- ---- a K line: `K3123456789FEDCBA98` and byte 10, and then `D`
 abbrev opening : List ℕ

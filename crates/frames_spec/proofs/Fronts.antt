@@ -1,5 +1,5 @@
 -- What K and D lines share: tests that refuse, fields of digits, the front of a line, and what the code's answers tell of a reading. Assumes nothing.
-use mathlib.Core.Path.{_≡_, refl, sym, ap, _∙_}
+use mathlib.Core.Path.{_≡_, refl, sym, ap, subst, _∙_}
 use mathlib.Core.Bool.{Bool, true, false}
 use mathlib.Core.List.{List, [], _∷_, _++_}
 use Prim.Native.Nat.{ℕ, suc, _+_, _*_, _^_, _≤_, _<_}
@@ -28,32 +28,28 @@ module _ {A : Type 0} where
   passed true n r a e = (refl, e)
   passed false n r a e = let z : _≡_ {A = ℕ} 0 1 = cc in absurd (omega arith)
 
--- ---- a refusal's number is from lo to hi
-abbrev pub Within : {A : Type 0} → ℕ → ℕ → Read A → Type 0
-Within lo hi (read a) = Unit
-Within lo hi (refused n) = (lo ≤ n) × (n ≤ hi)
+-- ---- a refusal's number is one of those that P names
+abbrev pub Among : {A : Type 0} → (ℕ → Type 0) → Read A → Type 0
+Among P (read a) = Unit
+Among P (refused n) = P n
 
-module _ (lo hi : ℕ) where
-  pub within-unless : {A : Type 0} (t : Bool) (n : ℕ) (r : Read A) → lo ≤ n → n ≤ hi → Within lo hi r → Within lo hi (refuseUnless t n r)
-  within-unless true n r a b h = h
-  within-unless false n r a b h = (a, b)
+module _ (P : ℕ → Type 0) where
+  pub among-unless : {A : Type 0} (t : Bool) (n : ℕ) (r : Read A) → P n → Among P r → Among P (refuseUnless t n r)
+  among-unless true n r p h = h
+  among-unless false n r p h = p
 
-  pub within-then : {A B : Type 0} (r : Read A) (follows : A → Read B) → Within lo hi r → ((a : A) → Within lo hi (follows a)) → Within lo hi (andThen r follows)
-  within-then (read a) follows h k = k a
-  within-then (refused n) follows h k = h
+  pub among-then : {A B : Type 0} (r : Read A) (follows : A → Read B) → Among P r → ((a : A) → Among P (follows a)) → Among P (andThen r follows)
+  among-then (read a) follows h k = k a
+  among-then (refused n) follows h k = h
 
-  after-within : (letter : ℕ) (l : List ℕ) → lo ≤ 6 → 8 ≤ hi → Within lo hi (afterLetter letter l)
+  after-among : (letter : ℕ) (l : List ℕ) → P 7 → P 8 → Among P (afterLetter letter l)
   unfolding afterLetter
-  after-within letter [] a b = (omega arith, omega arith)
-  after-within letter (x ∷ l) a b =
-      within-unless (eqb x letter) 7 (refuseUnless (allDigits l) 8 (read l)) (omega arith) (omega arith)
-      (within-unless (allDigits l) 8 (read l) (omega arith) b tt)
+  after-among letter [] p q = p
+  after-among letter (x ∷ l) p q = among-unless (eqb x letter) 7 (refuseUnless (allDigits l) 8 (read l)) p (among-unless (allDigits l) 8 (read l) q tt)
 
-  pub front-within : (letter : ℕ) (bs : List ℕ) → lo ≤ 6 → 8 ≤ hi → Within lo hi (lineDigits letter bs)
+  pub front-among : (letter : ℕ) (bs : List ℕ) → P 6 → P 7 → P 8 → Among P (lineDigits letter bs)
   unfolding lineDigits
-  front-within letter bs a b =
-      let l = take (lineEnd bs) bs in
-      within-unless (hasEnd bs) 6 (afterLetter letter l) a (omega arith) (after-within letter l a b)
+  front-among letter bs o p q = let l = take (lineEnd bs) bs in among-unless (hasEnd bs) 6 (afterLetter letter l) o (after-among letter l p q)
 
 -- ---- fields of digits: what `number` asks of one, and how large it is
 field-digits : (a n : ℕ) (ds : List ℕ) → allDigits ds ≡ true → allDigits (take n (drop a ds)) ≡ true
@@ -122,17 +118,17 @@ refusalOf (read a) = 0
 refusalOf (refused n) = n
 
 module _ {A : Type 0} where
-  pub was-read : (lo hi : ℕ) (r : Read A) → 1 ≤ lo → Within lo hi r → refusalOf r ≡ 0 → (a : A) × (r ≡ read a)
-  was-read lo hi (read a) l h e = (a, refl)
-  was-read lo hi (refused n) l h e = absurd (omega arith)
+  pub was-read : (P : ℕ → Type 0) (r : Read A) → (P 0 → ⊥) → Among P r → refusalOf r ≡ 0 → (a : A) × (r ≡ read a)
+  was-read P (read a) l h e = (a, refl)
+  was-read P (refused n) l h e = absurd (l (subst P e h))
 
   pub refused-is : (r : Read A) → (refusalOf r ≡ 0 → ⊥) → r ≡ refused (refusalOf r)
   refused-is (read a) h = absurd (h refl)
   refused-is (refused n) h = refl
 
-  pub refusal-most : (lo hi : ℕ) (r : Read A) → Within lo hi r → refusalOf r ≤ hi
-  refusal-most lo hi (read a) h = omega arith
-  refusal-most lo hi (refused n) h = h .1
+  pub refusal-most : (P : ℕ → Type 0) (hi : ℕ) (r : Read A) → ((n : ℕ) → P n → n ≤ hi) → Among P r → refusalOf r ≤ hi
+  refusal-most P hi (read a) l h = omega arith
+  refusal-most P hi (refused n) l h = l n h
 
   pub rest-refused : (r : Read A) (bs : List ℕ) (p : ℕ) → (refusalOf r ≡ 0 → ⊥) → (bs ≡ rest r bs) × (p ≡ p + used r bs)
   rest-refused (read a) bs p h = absurd (h refl)

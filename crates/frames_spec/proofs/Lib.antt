@@ -7,6 +7,7 @@ pub mod Lines
 pub mod WrittenLines
 pub mod Fronts
 pub mod Frames
+pub mod LineOrder
 pub mod Starts
 pub mod TheOneLine
 pub mod Writes

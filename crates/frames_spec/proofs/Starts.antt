@@ -14,9 +14,13 @@ use Rattle.frames_spec.specs.declared.answers.StartLine.{StartLine}
 use Rattle.frames_spec.specs.Line.{Read, read, refused, refuseUnless, lineEnd, lineDigits}
 use Rattle.frames_spec.specs.StartLine.{Start, fieldsOf, startOf, startLine, startAnswer}
 use Rattle.frames_spec.specs.RoundTrips.{IsStart}
-use Rattle.frames_spec.proofs.Fronts.{refuses, passes, passed, Within, within-unless, within-then, front-within, field-below, line-read, refusalOf, was-read, refused-is, refusal-most}
+use Rattle.frames_spec.proofs.Fronts.{refuses, passes, passed, Among, among-unless, among-then, front-among, field-below, line-read, refusalOf, was-read, refused-is, refusal-most}
 
 -- ---- the digits
+-- their numbers
+abbrev Refusals : ℕ → Type 0
+Refusals n = (1 ≤ n) × (n ≤ 9)
+
 module _ (ds : List ℕ) where
   abbrev worded : Read Start
   worded = refuseUnless (isWord (fieldsOf ds .word)) 4 (read (fieldsOf ds))
@@ -52,12 +56,12 @@ module _ (ds : List ℕ) where
       let q : fieldsOf ds ≡ k = cc in
       (eqb-true (length ds) 18 (a .0), subst (λ (s : Start). isKernel (s .kernel) ≡ true) q (b .0), subst (λ (s : Start). isWord (s .word) ≡ true) q (d .0), q)
 
-  start-within : Within 1 9 (startOf ds)
+  start-among : Among Refusals (startOf ds)
   unfolding startOf
-  start-within =
-      within-unless 1 9 (eqb (length ds) 18) 9 formed (omega arith) (omega arith)
-      (within-unless 1 9 (isKernel (fieldsOf ds .kernel)) 1 worded (omega arith) (omega arith)
-      (within-unless 1 9 (isWord (fieldsOf ds .word)) 4 (read (fieldsOf ds)) (omega arith) (omega arith) tt))
+  start-among =
+      among-unless Refusals (eqb (length ds) 18) 9 formed (omega arith)
+      (among-unless Refusals (isKernel (fieldsOf ds .kernel)) 1 worded (omega arith)
+      (among-unless Refusals (isWord (fieldsOf ds .word)) 4 (read (fieldsOf ds)) (omega arith) tt))
 
 -- ---- the line
 -- what the line is that was read
@@ -91,9 +95,9 @@ is-start k h w p =
     let most = leb-true (k .word) (2 ^ 34) (t .1) in
     record { kernel = omega (arith, leb-true (k .kernel) 3 h); some = omega arith; word = omega arith; phase = p }
 
-line-within : (bs : List ℕ) → Within 1 9 (startLine bs)
+line-among : (bs : List ℕ) → Among Refusals (startLine bs)
 unfolding startLine
-line-within bs = within-then 1 9 (lineDigits 75 bs) startOf (front-within 1 9 75 bs (omega arith) (omega arith)) start-within
+line-among bs = among-then Refusals (lineDigits 75 bs) startOf (front-among Refusals 75 bs (omega arith) (omega arith) (omega arith)) start-among
 
 -- what the code's answer tells of the line: its refusal, and where that is 0 the start
 pub refusal-is : (r : Read Start) (s : StartLine) → s ≡ startAnswer r → s .refusal ≡ refusalOf r
@@ -102,14 +106,14 @@ refusal-is (refused n) s e = ap (λ (s : StartLine). s .refusal) e
 
 pub start-taken : (bs : List ℕ) (s : StartLine) → s ≡ startAnswer (startLine bs) → s .refusal ≡ 0 → (k : Start) × (startLine bs ≡ read k) × Begun bs k
 start-taken bs s e z =
-    let t = was-read 1 9 (startLine bs) (omega arith) (line-within bs) (sym (refusal-is (startLine bs) s e) ∙ z) in
+    let t = was-read Refusals (startLine bs) (λ h. omega arith) (line-among bs) (sym (refusal-is (startLine bs) s e) ∙ z) in
     (t .0, t .1, begun bs (t .0) (t .1))
 
 pub start-refusal : (bs : List ℕ) (n : ℕ) → startLine bs ≡ refused n → (1 ≤ n) × (n ≤ 9)
-start-refusal bs n e = subst (Within 1 9) e (line-within bs)
+start-refusal bs n e = subst (Among Refusals) e (line-among bs)
 
 pub start-refused : (bs : List ℕ) (s : StartLine) → s ≡ startAnswer (startLine bs) → (s .refusal ≡ 0 → ⊥) → startLine bs ≡ refused (s .refusal)
 start-refused bs s e h = let i = refusal-is (startLine bs) s e in refused-is (startLine bs) (λ z. h (i ∙ z)) ∙ ap refused (sym i)
 
 pub start-most : (bs : List ℕ) (s : StartLine) → s ≡ startAnswer (startLine bs) → s .refusal ≤ 9
-start-most bs s e = omega (arith, refusal-is (startLine bs) s e, refusal-most 1 9 (startLine bs) (line-within bs))
+start-most bs s e = omega (arith, refusal-is (startLine bs) s e, refusal-most Refusals 9 (startLine bs) (λ n h. h .1) (line-among bs))

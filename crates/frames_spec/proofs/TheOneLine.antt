@@ -1,6 +1,6 @@
 -- The written line of fields is the one line that the reader accepts with them: request U2's promise `TheOneLine`. Assumes nothing.
 use mathlib.Core.Path.{_≡_, refl, sym, ap, _∙_}
-use mathlib.Core.Bool.{true}
+use mathlib.Core.Bool.{true, false}
 use mathlib.Core.List.{List, [], _∷_, _++_, append-assoc, append-nil, flatMap}
 use Prim.Native.Nat.{ℕ, zero, suc, _+_, _*_, _%_, _^_, _≤_, _<_}
 use native.Mathlib.Omega.{arith}
@@ -14,17 +14,18 @@ use Rattle.integers.specs.Sample.{signed, bits, signed-bits, bits-signed, bits-
 use Rattle.oscillator_spec.specs.Word.{isWord}
 use Rattle.bytes_spec.specs.Bytes.{AreSamples}
 use Rattle.converter_state.specs.Start.{isKernel}
-use Rattle.frames_spec.specs.Line.{read, allDigits, number, byteSum, digitsOf, field, used}
-use Rattle.frames_spec.specs.Frame.{Frame, sequenceOf, countOf, sampleAt, frameSamples, dataLine, frameOf}
+use Rattle.frames_spec.specs.declared.answers.Last.{Last}
+use Rattle.frames_spec.specs.Line.{read, refused, andThen, allDigits, number, byteSum, digitsOf, field, used}
+use Rattle.frames_spec.specs.Frame.{Frame, sequenceOf, countOf, sampleAt, frameSamples, isNext, dataLine, frameOf}
 use Rattle.frames_spec.specs.StartLine.{Start, fieldsOf, startOf, startLine}
 use Rattle.frames_spec.specs.Written.{lineOf, sampleDigits, frameDigits, checkOf, dataBytes, startBytes}
 use Rattle.frames_spec.specs.RoundTrips.{IsFrame, IsStart, TheOneLine}
 use Rattle.frames_spec.proofs.Hex.{all-take, all-drop}
 use Rattle.frames_spec.proofs.WrittenText.{digits-length}
 use Rattle.frames_spec.proofs.WrittenDigits.{digits-all, all-append, number-digits, digits-number, sum-append, sum-byte, sample-digits-length, sample-digits-append}
-use Rattle.frames_spec.proofs.WrittenLines.{written-read}
+use Rattle.frames_spec.proofs.WrittenLines.{written-digits, written-read}
 use Rattle.frames_spec.proofs.Fronts.{field-below, line-read}
-use Rattle.frames_spec.proofs.Frames.{Long, fields, samples-length, frame-read, read-frame}
+use Rattle.frames_spec.proofs.Frames.{Long, fields, samples-length, frame-15, frame-read, read-frame}
 use Rattle.frames_spec.proofs.Starts.{start-read, read-start}
 
 -- ---- fields
@@ -159,12 +160,20 @@ module _ (f : Frame) (h : IsFrame f) where
   long : length (all f) ≡ 12 + n * 4
   long = length-append (frameDigits f) check ∙ omega (arith, frame-digits-length f, digits-length 2 (checkOf (frameDigits f)))
 
-  frame-accepted : (space : ℕ) → n ≤ space → frameOf space (all f) ≡ read f
-  frame-accepted space l =
-      let even : length (frameDigits f) % 2 ≡ 0 = omega (arith, frame-digits-length f) in
-      let is-long : Long (all f) = (omega (arith, count-read, h .some), omega (arith, count-read, h .few), omega (arith, count-read, long)) in
-      frame-read (all f) space is-long (check-sums (frameDigits f) even) (omega (arith, count-read))
-      ∙ ap read (λ i. record { sequence = sequence-read i; samples = (ap (λ k. frameSamples k (all f)) count-read ∙ all-samples) i })
+  is-long : Long (all f)
+  is-long = (omega (arith, count-read, h .some), omega (arith, count-read, h .few), omega (arith, count-read, long))
+
+  sums : byteSum (all f) % 256 ≡ 0
+  sums = check-sums (frameDigits f) (omega (arith, frame-digits-length f))
+
+  module _ (told : Last) (space : ℕ) where
+    frame-accepted : isNext told (f .sequence) ≡ true → n ≤ space → frameOf told space (all f) ≡ read f
+    frame-accepted e l =
+        frame-read (all f) told space is-long sums (ap (isNext told) sequence-read ∙ e) (omega (arith, count-read))
+        ∙ ap read (λ i. record { sequence = sequence-read i; samples = (ap (λ k. frameSamples k (all f)) count-read ∙ all-samples) i })
+
+    frame-out-of-order : isNext told (f .sequence) ≡ false → frameOf told space (all f) ≡ refused 15
+    frame-out-of-order e = frame-15 (all f) told space is-long sums (ap (isNext told) sequence-read ∙ e)
 
 -- digits that were read as a frame are those that write it: those before the check, and all
 front-back : (ds : List ℕ) → allDigits ds ≡ true → Long ds → take (10 + countOf ds * 4) ds ≡ frameDigits (fields ds)
@@ -214,12 +223,14 @@ start-fields k h =
 pub the-one-line : TheOneLine
 unfolding dataLine dataBytes startLine startBytes isKernel isWord
 the-one-line = record {
-  data-accepted = λ f h space l follows.
-      written-read 68 (λ e. omega (arith, e)) (all f) (all-digits f) (omega (arith, long f h, h .few)) follows (frameOf space) f (frame-accepted f h space l);
-  data-only = λ space bs f e.
-      let t = line-read 68 bs (frameOf space) f e in
-      let g = read-frame (t .0) space f (t .2) in
-      ap (λ r. take (used r bs) bs) e ∙ t .1 .bytes ∙ ap (lineOf 68) (frame-back (t .0) (t .1 .digits) (g .0) (g .3) ∙ ap all (g .2));
+  data-accepted = λ f h told e space l follows.
+      written-read 68 (λ e. omega (arith, e)) (all f) (all-digits f) (omega (arith, long f h, h .few)) follows (frameOf told space) f (frame-accepted f h told space e l);
+  data-refused = λ f h told e space follows.
+      ap (λ r. andThen r (frameOf told space)) (written-digits 68 (λ e. omega (arith, e)) (all f) (all-digits f) (omega (arith, long f h, h .few)) follows) ∙ frame-out-of-order f h told space e;
+  data-only = λ told space bs f e.
+      let t = line-read 68 bs (frameOf told space) f e in
+      let g = read-frame (t .0) told space f (t .2) in
+      ap (λ r. take (used r bs) bs) e ∙ t .1 .bytes ∙ ap (lineOf 68) (frame-back (t .0) (t .1 .digits) (g .long) (g .check) ∙ ap all (g .is));
   start-accepted = λ k h follows.
       let digits = all-append (digitsOf 1 (k .kernel)) _ (digits-all 1 (k .kernel)) (all-append (digitsOf 9 (k .word)) (digitsOf 8 (k .phase)) (digits-all 9 (k .word)) (digits-all 8 (k .phase))) in
       let kernel : isKernel (fieldsOf (starts k) .kernel) ≡ true = ap (λ (s : Start). isKernel (s .kernel)) (start-fields k h) ∙ le-leb (k .kernel) 3 (omega (arith, h .kernel)) in

@@ -14,11 +14,11 @@ use Rattle.bytes_spec.proofs.Overwriting.{over-past}
 use Rattle.converter_state.specs.Start.{isKernel}
 use Rattle.frames_spec.specs.declared.answers.StartLine.{StartLine}
 use Rattle.frames_spec.specs.declared.answers.WrittenLine.{WrittenLine}
-use Rattle.frames_spec.specs.Line.{lineLimit, read, used, rest}
+use Rattle.frames_spec.specs.Line.{lineLimit, read, refused, used, rest}
 use Rattle.frames_spec.specs.Frame.{Frame, countLimit, dataLine, dataAnswer, filled}
 use Rattle.frames_spec.specs.StartLine.{Start, startLine, startAnswer}
 use Rattle.frames_spec.specs.Written.{dataBytes, startBytes, dataLength, startLength, dataRefusal, startRefusal, WriteRight, DataWritten, StartWritten}
-use Rattle.frames_spec.specs.RoundTrips.{frameRead, startRead, RoundTrips}
+use Rattle.frames_spec.specs.RoundTrips.{IsTyped, IsFrame, frameRead, startRead, RoundTrips}
 use Rattle.frames_spec.proofs.WrittenDigits.{data-long, start-long}
 use Rattle.frames_spec.proofs.Frames.{taken, filled-first}
 use Rattle.frames_spec.proofs.Starts.{is-start, start-taken}
@@ -118,32 +118,39 @@ module _ {n : ℕ} {line old left : List ℕ} {w : WrittenLine} (h : WriteRight 
   write-refused r = (h .answer ∙ rw (ne-eqb n 0 r), h .buffer ∙ rw (ne-eqb n 0 r))
 
 -- ---- the round trips
+-- a frame whose write is not refused
+written-frame : (f : Frame) → IsTyped f → (space : ℕ) → dataRefusal f space ≡ 0 → IsFrame f
+written-frame f t space e = let n = data-fits f space e in record { typed = t; some = n .0; few = n .1 }
+
 pub round-trips : RoundTrips
 round-trips = record {
-  data-read-back = λ f t old w line h z kept l d left g.
+  data-read-back = λ f t old w line h z told next kept l d left g.
       let e : dataRefusal f (length old) ≡ 0 = sym (write-refusal h) ∙ z in
-      let n = data-fits f (length old) e in
       let done = write-done h e in
-      let follows : List ℕ = drop (length (dataBytes f)) old in
-      let one = the-one-line .data-accepted f (record { typed = t; some = n .0; few = n .1 }) (length kept) l follows in
-      let is : dataLine (length kept) line ≡ read f = ap (dataLine (length kept)) (done .1) ∙ one .0 in
+      let one = the-one-line .data-accepted f (written-frame f t (length old) e) told next (length kept) l (drop (length (dataBytes f)) old) in
+      let is : dataLine told (length kept) line ≡ read f = ap (dataLine told (length kept)) (done .1) ∙ one .0 in
       record {
         fields = g .answer ∙ ap dataAnswer is;
         samples = g .buffer ∙ ap (λ r. filled r kept) is;
-        follows = ap (λ bs. rest (dataLine (length kept) bs) bs) (done .1) ∙ one .1 ∙ ap (λ (w : WrittenLine). drop (w .length) old) (sym (done .0));
+        follows = ap (λ bs. rest (dataLine told (length kept) bs) bs) (done .1) ∙ one .1 ∙ ap (λ (w : WrittenLine). drop (w .length) old) (sym (done .0));
       };
-  data-write-back = λ bs kept d left g z old l w line h.
-      let t = taken d (length kept) bs (g .answer) z in
+  data-read-15 = λ f t old w line h z told next kept d left g.
+      let e : dataRefusal f (length old) ≡ 0 = sym (write-refusal h) ∙ z in
+      let is : dataLine told (length kept) line ≡ refused 15
+      = ap (dataLine told (length kept)) (write-done h e .1) ∙ the-one-line .data-refused f (written-frame f t (length old) e) told next (length kept) (drop (length (dataBytes f)) old) in
+      (g .answer ∙ ap dataAnswer is, g .buffer ∙ ap (λ r. filled r kept) is);
+  data-write-back = λ bs told kept d left g z old l w line h.
+      let t = taken d told (length kept) bs (g .answer) z in
       let f : Frame = t .frame in
       let same : d ≡ dataAnswer (read f) = g .answer ∙ ap dataAnswer (t .is) in
       let samples : take (d .count) left ≡ f .samples
       = (λ i. take (same i .count) ((g .buffer ∙ ap (λ r. filled r kept) (t .is)) i)) ∙ filled-first f kept in
       let fields : frameRead d left ≡ f = λ i. record { sequence = same i .sequence; samples = samples i } in
-      let size : used (dataLine (length kept) bs) bs ≡ length (dataBytes f) = ap (λ r. used r bs) (t .is) ∙ t .line .size ∙ sym (data-long f) in
+      let size : used (dataLine told (length kept) bs) bs ≡ length (dataBytes f) = ap (λ r. used r bs) (t .is) ∙ t .line .size ∙ sym (data-long f) in
       let wrote : DataWritten f old w line = subst (λ (f : Frame). DataWritten f old w line) fields h in
       let e : dataRefusal f (length old) ≡ 0 = data-accepts f (length old) (t .line .some) (t .line .few) (omega (arith, size, data-long f, l)) in
       let done = write-done wrote e in
-      let bytes : dataBytes f ≡ take (used (dataLine (length kept) bs) bs) bs = sym (the-one-line .data-only (length kept) bs f (t .is)) in
+      let bytes : dataBytes f ≡ take (used (dataLine told (length kept) bs) bs) bs = sym (the-one-line .data-only told (length kept) bs f (t .is)) in
       record { answer = done .0 ∙ (λ i. record { length = sym size i; refusal = 0 }); bytes = done .1 ∙ ap (λ l. over l old) bytes };
   start-read-back = λ k p old w line h z s g.
       let e : startRefusal k (length old) ≡ 0 = sym (write-refusal h) ∙ z in

@@ -1,6 +1,6 @@
--- D lines, and what their reader owes (document 01, "Frame lines", and the refusals 6 to 11 of "What each refusal hands back"). Definitions only.
+-- D lines, and what their reader owes (document 01, "Frame lines", and the refusals 6 to 11 of "What each refusal hands back"; request U4, "Frames out of order", and refusal 15). Definitions only.
 use mathlib.Core.Path.{_≡_}
-use mathlib.Core.Bool.{Bool, _&&_}
+use mathlib.Core.Bool.{Bool, true, _&&_}
 use mathlib.Core.List.{List, [], _∷_, _++_}
 use Prim.Native.Nat.{ℕ, zero, suc, _+_, _*_, _%_}
 use lib.Dec.{leb, eqb}
@@ -9,6 +9,8 @@ use lib.ListN.{length}
 use Rattle.integers.specs.Sample.{signed}
 use Rattle.bytes_spec.specs.Overwritten.{over}
 use Rattle.frames_spec.specs.declared.answers.DataLine.{DataLine}
+use Rattle.frames_spec.specs.declared.answers.Last.{Last}
+use Rattle.frames_spec.specs.declared.answers.Last.the-variants as last
 use Rattle.frames_spec.specs.Line.{Read, read, refused, refuseUnless, andThen, lineDigits, field, byteSum}
 
 -- the fields of a D line; its count is the number of its samples
@@ -42,15 +44,27 @@ hasLength ds = leb 12 (length ds) && leb 1 (countOf ds) && leb (countOf ds) coun
 unfoldable pub checkHolds : List ℕ → Bool
 checkHolds ds = eqb (byteSum ds % 256) 0
 
--- of the digits, for a sample buffer with space for so many. Refusal 11: "sample buffer shorter than the count"
-unfoldable pub frameOf : ℕ → List ℕ → Read Frame
-frameOf space ds = refuseUnless (hasLength ds) 9
-    (refuseUnless (checkHolds ds) 10
-    (refuseUnless (leb (countOf ds) space) 11 (read (record { sequence = sequenceOf ds; samples = frameSamples (countOf ds) ds }))))
+-- refusal 15 otherwise: "The reader is told the last number accepted, or that there was none, and refuses a frame that doesn't follow it; with none, any number is accepted". The sum is one of
+-- whole numbers, which does not wrap: "No number follows FFFFFFFF hexadecimal"
+unfoldable pub isNext : Last → ℕ → Bool
+isNext last.None number = true
+isNext (last.Number n) number = eqb number (n + 1)
 
--- of the line that bs begins with: 6, 7, 8, then 9, 10, 11. Byte 68 is `D`
-unfoldable pub dataLine : ℕ → List ℕ → Read Frame
-dataLine space bs = andThen (lineDigits 68 bs) (frameOf space)
+-- of the digits, told the last number, for a sample buffer with space for so many. Refusal 15: "sequence not the next; after 10 and before 11". 11: "sample buffer shorter than the count"
+unfoldable pub frameOf : Last → ℕ → List ℕ → Read Frame
+frameOf told space ds = refuseUnless (hasLength ds) 9
+    (refuseUnless (checkHolds ds) 10
+    (refuseUnless (isNext told (sequenceOf ds)) 15
+    (refuseUnless (leb (countOf ds) space) 11 (read (record { sequence = sequenceOf ds; samples = frameSamples (countOf ds) ds })))))
+
+-- of the line that bs begins with: 6, 7, 8, then 9, 10, 15, 11. Byte 68 is `D`
+unfoldable pub dataLine : Last → ℕ → List ℕ → Read Frame
+dataLine told space bs = andThen (lineDigits 68 bs) (frameOf told space)
+
+-- "the last number accepted", as the next reading is told it: the number of the line that was read; a refused line changes nothing
+abbrev pub toldNext : Last → Read Frame → Last
+toldNext told (read f) = last.Number (f .sequence)
+toldNext told (refused n) = told
 
 -- ---- the reader
 -- what it answers: zeros beside a refusal
@@ -63,7 +77,7 @@ abbrev pub filled : Read Frame → List ℤ → List ℤ
 filled (read f) old = over (f .samples) old
 filled (refused n) old = old
 
--- What the reader owes that was lent the bytes bs and a sample buffer, which held `old` and holds `left` when it returns.
-pub record DataRight (bs : List ℕ) (old : List ℤ) (answered : DataLine) (left : List ℤ) : Type 0 where
-  pub answer : answered ≡ dataAnswer (dataLine (length old) bs)
-  pub buffer : left ≡ filled (dataLine (length old) bs) old
+-- What the reader owes that was lent the bytes bs, told the last number, and lent a sample buffer, which held `old` and holds `left` when it returns.
+pub record DataRight (bs : List ℕ) (told : Last) (old : List ℤ) (answered : DataLine) (left : List ℤ) : Type 0 where
+  pub answer : answered ≡ dataAnswer (dataLine told (length old) bs)
+  pub buffer : left ≡ filled (dataLine told (length old) bs) old

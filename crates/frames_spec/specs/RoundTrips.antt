@@ -1,6 +1,8 @@
 -- What request U2 promises of lines that are written and read: "write the one line that the reader accepts with those fields. With buffers long enough, reading a written line returns its
--- fields, and writing the fields of a read line returns its bytes." Definitions only; the proofs are `the-one-line` and `round-trips` in proofs/.
+-- fields, and writing the fields of a read line returns its bytes." And request U4: "The writer's round trip is then read with the number before it told, or none." Definitions only; the
+-- proofs are `the-one-line` and `round-trips` in proofs/.
 use mathlib.Core.Path.{_≡_}
+use mathlib.Core.Bool.{true, false}
 use mathlib.Core.List.{List, _++_}
 use Prim.Native.Nat.{ℕ, _^_, _≤_, _<_}
 use lib.IntN.{ℤ}
@@ -8,10 +10,11 @@ use lib.ListN.{length, take, drop}
 use Rattle.bytes_spec.specs.Bytes.{AreSamples}
 use Rattle.bytes_spec.specs.Overwritten.{over}
 use Rattle.frames_spec.specs.declared.answers.DataLine.{DataLine}
+use Rattle.frames_spec.specs.declared.answers.Last.{Last}
 use Rattle.frames_spec.specs.declared.answers.StartLine.{StartLine}
 use Rattle.frames_spec.specs.declared.answers.WrittenLine.{WrittenLine}
-use Rattle.frames_spec.specs.Line.{read, used, rest}
-use Rattle.frames_spec.specs.Frame.{Frame, countLimit, dataLine, DataRight}
+use Rattle.frames_spec.specs.Line.{read, refused, used, rest}
+use Rattle.frames_spec.specs.Frame.{Frame, countLimit, isNext, dataLine, DataRight}
 use Rattle.frames_spec.specs.StartLine.{Start, startLine, startAnswer}
 use Rattle.frames_spec.specs.Written.{dataBytes, startBytes, DataWritten, StartWritten}
 
@@ -35,11 +38,13 @@ pub record IsStart (k : Start) : Type 0 where
 
 -- ---- "the one line that the reader accepts with those fields"
 pub record TheOneLine : Type 0 where
-  -- the D line is accepted, by a reader with space for its samples, whatever follows it
-  pub data-accepted : (f : Frame) → IsFrame f → (space : ℕ) → length (f .samples) ≤ space → (follows : List ℕ)
-      → (dataLine space (dataBytes f ++ follows) ≡ read f) × (rest (dataLine space (dataBytes f ++ follows)) (dataBytes f ++ follows) ≡ follows)
-  -- and there is no other: the bytes that a line takes of any list are the written line of the frame that was read
-  pub data-only : (space : ℕ) (bs : List ℕ) (f : Frame) → dataLine space bs ≡ read f → take (used (dataLine space bs) bs) bs ≡ dataBytes f
+  -- the D line is accepted, by a reader that is told a number which it follows, or none, with space for its samples, whatever follows it
+  pub data-accepted : (f : Frame) → IsFrame f → (told : Last) → isNext told (f .sequence) ≡ true → (space : ℕ) → length (f .samples) ≤ space → (follows : List ℕ)
+      → (dataLine told space (dataBytes f ++ follows) ≡ read f) × (rest (dataLine told space (dataBytes f ++ follows)) (dataBytes f ++ follows) ≡ follows)
+  -- told any other number, the reader refuses it with 15, whatever the space
+  pub data-refused : (f : Frame) → IsFrame f → (told : Last) → isNext told (f .sequence) ≡ false → (space : ℕ) (follows : List ℕ) → dataLine told space (dataBytes f ++ follows) ≡ refused 15
+  -- and there is no other line: the bytes that a line takes of any list are the written line of the frame that was read
+  pub data-only : (told : Last) (space : ℕ) (bs : List ℕ) (f : Frame) → dataLine told space bs ≡ read f → take (used (dataLine told space bs) bs) bs ≡ dataBytes f
   -- the same of K lines
   pub start-accepted : (k : Start) → IsStart k → (follows : List ℕ)
       → (startLine (startBytes k ++ follows) ≡ read k) × (rest (startLine (startBytes k ++ follows)) (startBytes k ++ follows) ≡ follows)
@@ -47,10 +52,10 @@ pub record TheOneLine : Type 0 where
 
 -- ---- the round trips, of any reader and writer that meet their contracts
 -- What is read back of a written D line: the fields; the samples, before what the buffer held; and what follows the line is the rest of the lent buffer, as it was.
-pub record DataReadBack (f : Frame) (old : List ℕ) (w : WrittenLine) (line : List ℕ) (kept : List ℤ) (d : DataLine) (left : List ℤ) : Type 0 where
+pub record DataReadBack (f : Frame) (old : List ℕ) (w : WrittenLine) (line : List ℕ) (told : Last) (kept : List ℤ) (d : DataLine) (left : List ℤ) : Type 0 where
   pub fields : d ≡ record { sequence = f .sequence; count = length (f .samples); refusal = 0 }
   pub samples : left ≡ over (f .samples) kept
-  pub follows : rest (dataLine (length kept) line) line ≡ drop (w .length) old
+  pub follows : rest (dataLine told (length kept) line) line ≡ drop (w .length) old
 
 pub record StartReadBack (k : Start) (old : List ℕ) (w : WrittenLine) (line : List ℕ) (s : StartLine) : Type 0 where
   pub fields : s ≡ record { kernel = k .kernel; word = k .word; phase = k .phase; refusal = 0 }
@@ -69,13 +74,18 @@ abbrev pub startRead : StartLine → Start
 startRead s = record { kernel = s .kernel; word = s .word; phase = s .phase }
 
 pub record RoundTrips : Type 0 where
-  -- a write that is not refused; then a read of all that the lent buffer holds, with a sample buffer that is long enough
+  -- a write that is not refused; then a read of all that the lent buffer holds, told the number before the frame's, or none, with a sample buffer that is long enough
   pub data-read-back : (f : Frame) → IsTyped f → (old : List ℕ) (w : WrittenLine) (line : List ℕ) → DataWritten f old w line → w .refusal ≡ 0
-      → (kept : List ℤ) → length (f .samples) ≤ length kept → (d : DataLine) (left : List ℤ) → DataRight line kept d left → DataReadBack f old w line kept d left
-  -- a read of any list that is not refused; then a write of what was read, into any buffer that is long enough
-  pub data-write-back : (bs : List ℕ) (kept : List ℤ) (d : DataLine) (left : List ℤ) → DataRight bs kept d left → d .refusal ≡ 0
-      → (old : List ℕ) → used (dataLine (length kept) bs) bs ≤ length old → (w : WrittenLine) (line : List ℕ) → DataWritten (frameRead d left) old w line
-      → WriteBack (used (dataLine (length kept) bs) bs) bs old w line
+      → (told : Last) → isNext told (f .sequence) ≡ true
+      → (kept : List ℤ) → length (f .samples) ≤ length kept → (d : DataLine) (left : List ℤ) → DataRight line told kept d left → DataReadBack f old w line told kept d left
+  -- told any other number: 15, and the sample buffer, long enough or not, as it was
+  pub data-read-15 : (f : Frame) → IsTyped f → (old : List ℕ) (w : WrittenLine) (line : List ℕ) → DataWritten f old w line → w .refusal ≡ 0
+      → (told : Last) → isNext told (f .sequence) ≡ false
+      → (kept : List ℤ) (d : DataLine) (left : List ℤ) → DataRight line told kept d left → (d ≡ record { sequence = 0; count = 0; refusal = 15 }) × (left ≡ kept)
+  -- a read of any list that is not refused, whatever was told; then a write of what was read, into any buffer that is long enough
+  pub data-write-back : (bs : List ℕ) (told : Last) (kept : List ℤ) (d : DataLine) (left : List ℤ) → DataRight bs told kept d left → d .refusal ≡ 0
+      → (old : List ℕ) → used (dataLine told (length kept) bs) bs ≤ length old → (w : WrittenLine) (line : List ℕ) → DataWritten (frameRead d left) old w line
+      → WriteBack (used (dataLine told (length kept) bs) bs) bs old w line
   -- the same of K lines
   pub start-read-back : (k : Start) → k .phase < 2 ^ 32 → (old : List ℕ) (w : WrittenLine) (line : List ℕ) → StartWritten k old w line → w .refusal ≡ 0
       → (s : StartLine) → s ≡ startAnswer (startLine line) → StartReadBack k old w line s

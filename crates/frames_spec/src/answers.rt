@@ -1,6 +1,12 @@
-// What the readers and writers of lines answer. The functions stand in the crates `frames_read` and `frames_write`.
+// What the reader of D lines is told, and what the readers and writers of lines answer. The functions stand in the crates `frames_read` and `frames_write`.
 
-// The fields of a D line; `count` samples are in the lent buffer. A refusal has its number, 6 to 11, and zeros.
+// The last number accepted, or that there was none.
+pub enum Last {
+    None,
+    Number(u32),
+}
+
+// The fields of a D line; `count` samples are in the lent buffer. A refusal has its number, 6 to 11 or 15, and zeros.
 pub struct DataLine {
     pub sequence: u32,
     pub count: usize,

@@ -3,6 +3,7 @@ mod answers;
 mod limits;
 
 pub use answers::DataLine;
+pub use answers::Last;
 pub use answers::StartLine;
 pub use answers::WrittenLine;
 pub use limits::COUNT_LIMIT;

@@ -1,10 +1,12 @@
 // What the host's `frame` holds of a line.
+use bytes::number_at;
 use bytes::put_number;
 use frames_spec::DataLine;
+use frames_spec::Last;
 use frames_spec::StartLine;
 ghost use mathlib.Core.Path.{_≡_};
 ghost use lib.ListN.{length};
-ghost use Rattle.host_spec.specs.HostLines.{dataFieldsLength, dataFields, startFieldsLength, startFields};
+ghost use Rattle.host_spec.specs.HostLines.{dataFieldsLength, dataFields, startFieldsLength, startFields, toldBy};
 
 // The places of the fields of a D line, each behind the one before it, and how long they are: `dataFieldsLength`.
 const SEQUENCE_PLACE: usize = 0;
@@ -21,6 +23,19 @@ const PHASE_PLACE: usize = KERNEL_PLACE + 4;
 const WORD_PLACE: usize = PHASE_PLACE + 4;
 
 pub const START_FIELDS: usize = WORD_PLACE + 8;
+
+// What the fields of a D line tell a read: the last number accepted, or, by a count of 0, that there was none.
+pub fn last_in(frame: &[u8]) -> Last
+    requires { ⌜ length (now frame) ≡ dataFieldsLength ⌝ }
+    ensures { λ r. ⌜ r ≡ toldBy (now (frame .entry)) ⌝ }
+{
+    let sequence = number_at(frame, SEQUENCE_PLACE, 4) as u32;
+    let count = number_at(frame, COUNT_PLACE, 4);
+    if count == 0 {
+        return Last::None;
+    }
+    Last::Number(sequence)
+}
 
 // Writes the fields of a D line.
 pub fn put_data_fields(frame: &mut [u8], d: DataLine)

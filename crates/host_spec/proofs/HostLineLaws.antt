@@ -1,16 +1,17 @@
 -- What a host call that writes or reads a line returns and leaves, by cases: refused, or accepted. Assumes nothing.
 use mathlib.Core.Path.{_≡_, refl, sym, subst, _∙_}
 use mathlib.Core.Bool.{true, false}
-use mathlib.Core.List.{List}
+use mathlib.Core.List.{List, [], _∷_}
 use Prim.Native.Nat.{ℕ, _/_, _<_}
 use native.Mathlib.Omega.{arith}
 use borrow.Author.Tests.{eq-eqb, ne-eqb, lt-leb}
 use lib.IntN.{ℤ}
 use lib.ListN.{length}
-use Rattle.bytes_spec.specs.Bytes.{samplesOf, pairsOf}
+use Rattle.bytes_spec.specs.Bytes.{numberOf, numberAt, samplesOf, pairsOf}
 use Rattle.bytes_spec.specs.Overwritten.{over}
 use Rattle.bytes_spec.proofs.Samples.{samples-long}
 use Rattle.converter_state.specs.Start.{isKernel}
+use Rattle.frames_spec.specs.declared.answers.Last.the-variants as last
 use Rattle.frames_spec.specs.declared.answers.WrittenLine.{WrittenLine}
 use Rattle.frames_spec.specs.Line.{Read, read, refused}
 use Rattle.frames_spec.specs.Frame.{Frame, countLimit, dataLine, dataAnswer}
@@ -18,7 +19,7 @@ use Rattle.frames_spec.specs.StartLine.{Start, startLine, startAnswer}
 use Rattle.frames_spec.specs.Written.{dataBytes, startBytes, dataRefusal, startRefusal, writeLeaves, DataWritten, StartWritten}
 use Rattle.frames_spec.proofs.Writes.{data-14, start-1}
 use Rattle.host_spec.specs.Host.{isBuffer}
-use Rattle.host_spec.specs.HostLines.{writeReply, hostWriteData, hostWriteStart, dataFieldsLength, dataFields, startFieldsLength, startFields, readReply, hostReadData, startReply, hostReadStart}
+use Rattle.host_spec.specs.HostLines.{writeReply, hostWriteData, hostWriteStart, dataFieldsLength, dataFields, sequencePlace, countPlace, startFieldsLength, startFields, toldBy, readReply, hostReadData, startReply, hostReadStart}
 use Rattle.host_spec.proofs.Hosts.{keeps}
 
 -- ---- writing: 12, and then what the write of a line owes
@@ -73,10 +74,27 @@ module _ (kernel word phase : ℕ) (line : List ℕ) where
   unfolding hostWriteStart
   refused-write-start h = keeps _ (over (startBytes begun) line) line h
 
+-- ---- what the fields of a D line tell a read
+-- a count of 0 beside the number 7; counts of 1, 256 and 2^24; the number FFFFFFFF
+pub told-by : (toldBy (7 ∷ 0 ∷ 0 ∷ 0 ∷ 0 ∷ 0 ∷ 0 ∷ 0 ∷ []) ≡ last.None) × (toldBy (7 ∷ 0 ∷ 0 ∷ 0 ∷ 1 ∷ 0 ∷ 0 ∷ 0 ∷ []) ≡ last.Number 7)
+    × (toldBy (0 ∷ 0 ∷ 0 ∷ 0 ∷ 0 ∷ 1 ∷ 0 ∷ 0 ∷ []) ≡ last.Number 0) × (toldBy (0 ∷ 1 ∷ 0 ∷ 0 ∷ 0 ∷ 0 ∷ 0 ∷ 1 ∷ []) ≡ last.Number 256)
+    × (toldBy (0xFF ∷ 0xFF ∷ 0xFF ∷ 0xFF ∷ 64 ∷ 0 ∷ 0 ∷ 0 ∷ []) ≡ last.Number 0xFFFFFFFF)
+unfolding numberOf toldBy
+told-by = (refl, refl, refl, refl, refl)
+
+module _ (frame : List ℕ) where
+  pub told-none : numberAt countPlace 4 frame ≡ 0 → toldBy frame ≡ last.None
+  unfolding toldBy
+  told-none e = rw (eq-eqb (numberAt countPlace 4 frame) 0 e)
+
+  pub told-number : (numberAt countPlace 4 frame ≡ 0 → ⊥) → toldBy frame ≡ last.Number (numberAt sequencePlace 4 frame)
+  unfolding toldBy
+  told-number h = rw (ne-eqb (numberAt countPlace 4 frame) 0 h)
+
 -- ---- reading a D line: 5, then the line's refusals, then 12
 module _ (line frame samples : List ℕ) where
   abbrev answered : Read Frame
-  answered = dataLine (length samples / 2) line
+  answered = dataLine (toldBy frame) (length samples / 2) line
 
   pub read-data-5 : (length frame ≡ dataFieldsLength → ⊥) → hostReadData line frame samples ≡ readReply 5 frame samples
   unfolding hostReadData

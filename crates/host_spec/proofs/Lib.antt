@@ -15,3 +15,5 @@ pub mod HostLineLaws
 pub mod LineHostExamples
 pub mod LinesBack
 pub mod OneLineBack
+pub mod HostLineOrder
+pub mod TwoLinesRead

@@ -8,7 +8,7 @@ use borrow.Author.Tests.{eqb-true}
 use lib.Dec.{eqb}
 use lib.IntN.{ℤ}
 use lib.ListN.{length, take, drop}
-use Rattle.bytes_spec.specs.Bytes.{numberAt, bytesOf, samplesOf, pairsOf}
+use Rattle.bytes_spec.specs.Bytes.{Bytes, numberAt, bytesOf, samplesOf, pairsOf}
 use Rattle.bytes_spec.specs.Overwritten.{over}
 use Rattle.bytes_spec.proofs.ByteNumbers.{number-bytes}
 use Rattle.bytes_spec.proofs.Samples.{samples-long, samples-are, pairs-long, samples-pairs, pairs-samples}
@@ -26,10 +26,10 @@ use Rattle.frames_spec.proofs.Starts.{is-start, start-taken, begun}
 use Rattle.frames_spec.proofs.TheOneLine.{the-one-line}
 use Rattle.frames_spec.proofs.Writes.{data-fits, data-accepts, start-fits, start-accepts}
 use Rattle.host_spec.specs.Host.{isBuffer}
-use Rattle.host_spec.specs.HostLines.{WriteReply, writeReply, hostWriteData, hostWriteStart, dataFieldsLength, dataFields, startFieldsLength, startFields, fieldsRefusal, ReadReply, readReply, hostReadData, StartReply, startReply, hostReadStart}
+use Rattle.host_spec.specs.HostLines.{WriteReply, writeReply, hostWriteData, hostWriteStart, dataFieldsLength, dataFields, startFieldsLength, startFields, fieldsRefusal, toldBy, ReadReply, readReply, hostReadData, StartReply, startReply, hostReadStart}
 use Rattle.host_spec.specs.HostRoundTrips.{sequenceIn, countIn, kernelIn, phaseIn, wordIn, HostRoundTrips}
 use Rattle.host_spec.proofs.Hosts.{first-zeros, buffer-is, is-buffer}
-use Rattle.host_spec.proofs.HostLineLaws.{write-even, write-start, read-data-done, read-start-done}
+use Rattle.host_spec.proofs.HostLineLaws.{write-even, write-start, read-data-refused, read-data-done, read-start-done}
 
 -- ---- calls that were accepted
 -- a test that did not refuse holds
@@ -50,6 +50,13 @@ module _ (sequence : ℕ) (samples line : List ℕ) where
   unfolding hostWriteData
   data-wrote z = let t = first-zeros _ (dataRefusal given (length line)) z in (held (isBuffer (length samples)) _ (omega arith) (t .0), t .1)
 
+  -- a frame of a number of 32 bits and of bytes that was written
+  wrote-frame : sequence < 2 ^ 32 → Bytes samples → dataRefusal given (length line) ≡ 0 → IsFrame given
+  wrote-frame low bytes e =
+      let g = data-fits given (length line) e in
+      let typed : IsTyped given = record { sequence = low; samples = samples-are samples bytes } in
+      record { typed = typed; some = omega (arith, g .0); few = omega (arith, g .1) }
+
   pub data-writes : isBuffer (length samples) ≡ true → dataRefusal given (length line) ≡ 0 → hostWriteData sequence samples line ≡ writeReply 0 (over (dataBytes given) line)
   data-writes b e = write-even sequence samples line b ∙ rw e
 
@@ -57,16 +64,20 @@ pub start-writes : (k : Start) (line : List ℕ) → startRefusal k (length line
 start-writes k line e = write-start (k .kernel) (k .word) (k .phase) line ∙ rw e
 
 -- what a read came to
-data-was-read : (line frame samples : List ℕ) → hostReadData line frame samples .result ≡ 0
-    → (f : Frame) × (dataLine (length samples / 2) line ≡ read f) × (hostReadData line frame samples ≡ readReply 0 (dataFields (dataAnswer (read f))) (over (pairsOf (f .samples)) samples))
+pub record WasRead (line frame samples : List ℕ) (r : ReadReply) : Type 0 where
+  pub given : Frame
+  pub is : dataLine (toldBy frame) (length samples / 2) line ≡ read given
+  pub reply : r ≡ readReply 0 (dataFields (dataAnswer (read given))) (over (pairsOf (given .samples)) samples)
+
+pub data-was-read : (line frame samples : List ℕ) → hostReadData line frame samples .result ≡ 0 → WasRead line frame samples (hostReadData line frame samples)
 unfolding hostReadData
 data-was-read line frame samples z =
-    let r : Read Frame = dataLine (length samples / 2) line in
+    let r : Read Frame = dataLine (toldBy frame) (length samples / 2) line in
     let a = first-zeros (fieldsRefusal dataFieldsLength frame) _ z in
     let b = first-zeros (dataAnswer r .refusal) (cond (isBuffer (length samples)) 0 12) (a .1) in
-    let t = taken (dataAnswer r) (length samples / 2) line refl (b .0) in
+    let t = taken (dataAnswer r) (toldBy frame) (length samples / 2) line refl (b .0) in
     let l = eqb-true (length frame) dataFieldsLength (held (eqb (length frame) dataFieldsLength) _ (omega arith) (a .0)) in
-    (t .frame, t .is, read-data-done line frame samples l (t .frame) (t .is) (held (isBuffer (length samples)) _ (omega arith) (b .1)))
+    record { given = t .frame; is = t .is; reply = read-data-done line frame samples l (t .frame) (t .is) (held (isBuffer (length samples)) _ (omega arith) (b .1)) }
 
 start-was-read : (line frame : List ℕ) → hostReadStart line frame .result ≡ 0 → (k : Start) × (startLine line ≡ read k) × (hostReadStart line frame ≡ startReply 0 (startFields (startAnswer (read k))))
 unfolding hostReadStart
@@ -80,6 +91,16 @@ start-was-read line frame z =
 data-found : (d : DataLine) → d .sequence < 2 ^ 32 → d .count < 2 ^ 32 → (numberAt 0 4 (dataFields d) ≡ d .sequence) × (numberAt 4 4 (dataFields d) ≡ d .count)
 unfolding dataFields bytesOf
 data-found d s c = (number-bytes 4 (d .sequence) s, number-bytes 4 (d .count) c)
+
+-- of a read that was accepted: the number and the count of what it was given
+module _ (line frame samples : List ℕ) {r : ReadReply} (t : WasRead line frame samples r) where
+  pub was-frame : IsFrame (t .given)
+  was-frame = read-is-frame (toldBy frame) (length samples / 2) line (t .given) (t .is)
+
+  pub read-found : (sequenceIn r ≡ t .given .sequence) × (countIn r ≡ length (t .given .samples))
+  read-found =
+      let d = data-found (dataAnswer (read (t .given))) (was-frame .typed .sequence) (omega (arith, was-frame .few)) in
+      (ap (λ (r : ReadReply). sequenceIn r) (t .reply) ∙ d .0, ap (λ (r : ReadReply). countIn r) (t .reply) ∙ d .1)
 
 start-found : (s : StartLine) → s .kernel < 2 ^ 32 → s .phase < 2 ^ 32 → s .word < 2 ^ 64
     → (numberAt 0 4 (startFields s) ≡ s .kernel) × (numberAt 4 4 (startFields s) ≡ s .phase) × (numberAt 8 8 (startFields s) ≡ s .word)
@@ -104,15 +125,13 @@ module _ (f : Frame) (h : IsFrame f) where
 pub host-round-trips : HostRoundTrips
 unfolding dataFields startFields
 host-round-trips = record {
-  data-read-back = λ sequence low samples bytes old z frame kept size buffer longer.
+  data-read-back = λ sequence low samples bytes old z frame kept size next buffer longer.
       let f : Frame = givenFrame sequence samples in
       let a = data-wrote sequence samples old z in
-      let g = data-fits f (length old) (a .1) in
-      let typed : IsTyped f = record { sequence = low; samples = samples-are samples bytes } in
-      let h : IsFrame f = record { typed = typed; some = omega (arith, g .0); few = omega (arith, g .1) } in
+      let h = wrote-frame sequence samples old low bytes (a .1) in
       let w = data-writes sequence samples old (a .0) (a .1) in
       let n = samples-long samples in
-      let r = the-one-line .data-accepted f h (length kept / 2) (omega arith) (drop (length (dataBytes f)) old) .0 in
+      let r = the-one-line .data-accepted f h (toldBy frame) next (length kept / 2) (omega arith) (drop (length (dataBytes f)) old) .0 in
       let same = pairs-samples samples bytes (buffer-is (length samples) (a .0) .0) in (
         ap (λ (w : WriteReply). hostReadData (w .line) frame kept) w
             ∙ read-data-done (over (dataBytes f) old) frame kept size f r buffer
@@ -120,19 +139,25 @@ host-round-trips = record {
         ap (λ (w : WriteReply). drop (dataLength (length samples / 2)) (w .line)) w
             ∙ over-behind (dataBytes f) old (dataLength (length samples / 2)) (omega (arith, data-long f)),
       );
+  data-read-15 = λ sequence low samples bytes old z frame kept size next.
+      let f : Frame = givenFrame sequence samples in
+      let a = data-wrote sequence samples old z in
+      let h = wrote-frame sequence samples old low bytes (a .1) in
+      let r = the-one-line .data-refused f h (toldBy frame) next (length kept / 2) (drop (length (dataBytes f)) old) in
+      ap (λ (w : WriteReply). hostReadData (w .line) frame kept) (data-writes sequence samples old (a .0) (a .1))
+      ∙ read-data-refused (over (dataBytes f) old) frame kept size 15 r (λ e. omega arith);
   data-write-back = λ line frame samples z old l.
       let r : ReadReply = hostReadData line frame samples in
       let t = data-was-read line frame samples z in
-      let f : Frame = t .0 in
-      let h = read-is-frame (length samples / 2) line f (t .1) in
-      let d = data-found (dataAnswer (read f)) (h .typed .sequence) (omega (arith, h .few)) in
-      let sequence : sequenceIn r ≡ f .sequence = ap (λ (r : ReadReply). sequenceIn r) (t .2) ∙ d .0 in
-      let count : countIn r ≡ length (f .samples) = ap (λ (r : ReadReply). countIn r) (t .2) ∙ d .1 in
+      let f : Frame = t .given in
+      let h = was-frame line frame samples t in
+      let sequence = read-found line frame samples t .0 in
+      let count = read-found line frame samples t .1 in
       let pairs : take (countIn r * 2) (r .samples) ≡ pairsOf (f .samples)
-      = (λ i. take (count i * 2) (t .2 i .samples)) ∙ ap (λ n. take n (over (pairsOf (f .samples)) samples)) (sym (pairs-long (f .samples))) ∙ over-front (pairsOf (f .samples)) samples in
-      let size = framed (length samples / 2) line f (t .1) .size in
+      = (λ i. take (count i * 2) (t .reply i .samples)) ∙ ap (λ n. take n (over (pairsOf (f .samples)) samples)) (sym (pairs-long (f .samples))) ∙ over-front (pairsOf (f .samples)) samples in
+      let size = framed (toldBy frame) (length samples / 2) line f (t .is) .size in
       let bytes : take (dataLength (countIn r)) line ≡ dataBytes f
-      = ap (λ n. take n line) (ap dataLength count ∙ sym size) ∙ ap (λ (x : Read Frame). take (used x line) line) (sym (t .1)) ∙ the-one-line .data-only (length samples / 2) line f (t .1) in
+      = ap (λ n. take n line) (ap dataLength count ∙ sym size) ∙ ap (λ (x : Read Frame). take (used x line) line) (sym (t .is)) ∙ the-one-line .data-only (toldBy frame) (length samples / 2) line f (t .is) in
       (λ i. hostWriteData (sequence i) (pairs i) old) ∙ write-again f h old (omega arith) ∙ ap (λ bs. writeReply 0 (over bs old)) (sym bytes);
   start-read-back = λ kernel word phase low old z frame size.
       let k : Start = record { kernel = kernel; word = word; phase = phase } in

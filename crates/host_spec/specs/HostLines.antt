@@ -1,14 +1,16 @@
--- The host calls that write and read lines (request U2, "Write frames as well"; the layout of what a line holds and the order of the refusals are decision 89): of each what it returns and
--- what it leaves in the buffers that it was lent. Definitions only.
+-- The host calls that write and read lines (request U2, "Write frames as well", and U4, "Frames out of order"; the layout of what a line holds and the order of the refusals are decision 89,
+-- what a read is told decision 97): of each what it returns and what it leaves in the buffers that it was lent. Definitions only.
 use mathlib.Core.Bool.{cond}
 use mathlib.Core.List.{List, [], _++_}
 use Prim.Native.Nat.{ℕ, _/_}
 use lib.Dec.{eqb}
 use lib.IntN.{ℤ}
 use lib.ListN.{length}
-use Rattle.bytes_spec.specs.Bytes.{bytesOf, samplesOf, pairsOf}
+use Rattle.bytes_spec.specs.Bytes.{bytesOf, numberAt, samplesOf, pairsOf}
 use Rattle.bytes_spec.specs.Overwritten.{over}
 use Rattle.frames_spec.specs.declared.answers.DataLine.{DataLine}
+use Rattle.frames_spec.specs.declared.answers.Last.{Last}
+use Rattle.frames_spec.specs.declared.answers.Last.the-variants as last
 use Rattle.frames_spec.specs.declared.answers.StartLine.{StartLine}
 use Rattle.frames_spec.specs.Line.{Read, read, refused}
 use Rattle.frames_spec.specs.Frame.{Frame, dataLine, dataAnswer}
@@ -47,6 +49,13 @@ dataFieldsLength = 8
 unfoldable pub dataFields : DataLine → List ℕ
 dataFields d = bytesOf 4 (d .sequence) ++ bytesOf 4 (d .count)
 
+-- where they stand
+abbrev pub sequencePlace : ℕ
+sequencePlace = 0
+
+abbrev pub countPlace : ℕ
+countPlace = 4
+
 abbrev pub startFieldsLength : ℕ
 startFieldsLength = 16
 
@@ -56,6 +65,10 @@ startFields s = bytesOf 4 (s .kernel) ++ (bytesOf 4 (s .phase) ++ bytesOf 8 (s .
 -- refusal 5 where `frame` has another length
 abbrev pub fieldsRefusal : ℕ → List ℕ → ℕ
 fieldsRefusal size frame = cond (eqb (length frame) size) 0 5
+
+-- what `frame` tells a read of a D line: the last number accepted, or, by a count of 0, that there was none
+unfoldable pub toldBy : List ℕ → Last
+toldBy frame = cond (eqb (numberAt countPlace 4 frame) 0) last.None (last.Number (numberAt sequencePlace 4 frame))
 
 -- the samples of a line that was read
 abbrev pub samplesRead : Read Frame → List ℤ
@@ -71,10 +84,10 @@ pub record ReadReply : Type 0 where
 abbrev pub readReply : ℕ → List ℕ → List ℕ → ReadReply
 readReply r bs ys = record { result = r; frame = bs; samples = ys }
 
--- the D line that the bytes begin with: 5, then 6 to 10, 11 (the samples' length halved and rounded down is below the count), 12
+-- the D line that the bytes begin with: 5, then 6 to 10, 15, 11 (the samples' length halved and rounded down is below the count), 12
 unfoldable pub hostReadData : List ℕ → List ℕ → List ℕ → ReadReply
 hostReadData line frame samples =
-    let r : Read Frame = dataLine (length samples / 2) line in
+    let r : Read Frame = dataLine (toldBy frame) (length samples / 2) line in
     let n : ℕ = firstRefusal (fieldsRefusal dataFieldsLength frame) (firstRefusal (dataAnswer r .refusal) (cond (isBuffer (length samples)) 0 12)) in
     readReply n (accepting n (dataFields (dataAnswer r)) frame) (accepting n (over (pairsOf (samplesRead r)) samples) samples)
 

@@ -6,3 +6,4 @@ pub mod LaneHost
 pub mod LaneCalls
 pub mod HostLines
 pub mod HostRoundTrips
+pub mod HostOrder

@@ -23,7 +23,7 @@ use Rattle.converter_spec.proofs.Runs.{Ending, full, hungry, rule-ending, rule-
 use Rattle.converter_spec.proofs.Feeds.{fed-rule, fed-refused, fed-sizes, two-feeds}
 use Rattle.program_spec.specs.Program.{outputLines}
 use Rattle.program_spec.specs.Turn.{spaceIn}
-use Rattle.program.specs.Block.{goesOn, FedText}
+use Rattle.program.specs.Block.{blockSize, goesOn, FedText}
 use Rattle.frames_spec.proofs.WrittenText.{Written, none-written, written-length, line-written}
 use Rattle.bytes_spec.proofs.LentParts.{lent, lent-all, lent-length, returned}
 use Rattle.program_spec.proofs.LinesWritten.{outputs-length, outputs-append}
@@ -156,7 +156,7 @@ module _ {s : State} {xs : List ℤ} {old : List ℕ} {a : Fed} {text : List ℕ
 
   -- a block more: the samples and the text that it is lent, and the text with what it left there
   module _ {more : Fed} {part : List ℕ}
-      (b : FedText (a .state) (lent (a .counts .taken) xs) (min (spaceIn (length (lent (a .counts .written * 5) text))) 512) (lent (a .counts .written * 5) text) more part) where
+      (b : FedText (a .state) (lent (a .counts .taken) xs) (min (spaceIn (length (lent (a .counts .written * 5) text))) blockSize) (lent (a .counts .written * 5) text) more part) where
     abbrev rest : List ℤ
     rest = drop (a .counts .taken) xs
 
@@ -164,16 +164,16 @@ module _ {s : State} {xs : List ℤ} {old : List ℕ} {a : Fed} {text : List ℕ
     left = room - a .counts .written
 
     abbrev ys : List ℤ
-    ys = outputsOf (a .state) rest (min left 512)
+    ys = outputsOf (a .state) rest (min left blockSize)
 
     space : spaceIn (length (lent (a .counts .written * 5) text)) ≡ left
     space = ap spaceIn (lent-length (a .counts .written * 5) text) ∙ omega (arith, going-length, going-sizes)
 
-    right : FedText (a .state) rest (min left 512) (lent (a .counts .written * 5) text) more part
+    right : FedText (a .state) rest (min left blockSize) (lent (a .counts .written * 5) text) more part
     right = rw (lent-all (a .counts .taken) xs, space) at b
 
-    sizes : (more .counts .written ≡ length ys) × (length ys ≤ min left 512)
-    sizes = let z = fed-sizes (a .state) rest (min left 512) in (ap (λ (x : Fed). x .counts .written) (right .answer) ∙ z .0, z .2)
+    sizes : (more .counts .written ≡ length ys) × (length ys ≤ min left blockSize)
+    sizes = let z = fed-sizes (a .state) rest (min left blockSize) in (ap (λ (x : Fed). x .counts .written) (right .answer) ∙ z .0, z .2)
 
     lines : Written ((a .counts .written + more .counts .written) * 5) (outputLines (g .done ++ ys)) old (returned (a .counts .written * 5) text part)
     lines =
@@ -185,7 +185,7 @@ module _ {s : State} {xs : List ℤ} {old : List ℕ} {a : Fed} {text : List ℕ
     block-goes l =
         let k : ℕ = left - more .counts .written in
         let n : left ≡ more .counts .written + k = omega (arith, sizes) in
-        let on = rw (← right .answer) at (fed-on (a .state) rest (min left 512) (g .register) k) in
+        let on = rw (← right .answer) at (fed-on (a .state) rest (min left blockSize) (g .register) k) in
         let d : drop (more .counts .taken) rest ≡ drop (a .counts .taken + more .counts .taken) xs = drop-drop (more .counts .taken) (a .counts .taken) xs in
         let m : k ≡ room - (a .counts .written + more .counts .written) = omega arith in
         record {
@@ -204,13 +204,13 @@ module _ {s : State} {xs : List ℤ} {old : List ℕ} {a : Fed} {text : List ℕ
           written = lines;
         }
 
-    ending : Ends (a .state) rest (min left 512) more ys
-    ending = rw (← right .answer) at (fed-ends (a .state) rest (min left 512))
+    ending : Ends (a .state) rest (min left blockSize) more ys
+    ending = rw (← right .answer) at (fed-ends (a .state) rest (min left blockSize))
 
     -- it is the feed into all the room that is left, if it ends HUNGRY or fills that room
     whole : (more .counts .end ≡ HUNGRY) ⊎ (more .counts .written ≡ left) → (fedOf (a .state) rest left ≡ more) × (outputsOf (a .state) rest left ≡ ys)
     whole (inl e) = ⊎-elim (λ h. absurd (omega (arith, ap endNumber (sym e ∙ h .0)))) (λ h. h .1 left (omega arith)) ending
-    whole (inr e) = let n : left ≡ min left 512 = omega (arith, sizes) in (ap (fedOf (a .state) rest) n ∙ sym (right .answer), ap (outputsOf (a .state) rest) n)
+    whole (inr e) = let n : left ≡ min left blockSize = omega (arith, sizes) in (ap (fedOf (a .state) rest) n ∙ sym (right .answer), ap (outputsOf (a .state) rest) n)
 
     module _ (f : Fed) (j : f ≡ goesOn a more) where
       abbrev sum : f .counts .written ≡ a .counts .written + more .counts .written

@@ -17,6 +17,7 @@ use Rattle.bytes_spec.specs.Overwritten.{over}
 use Rattle.converter_spec.specs.Feeding.{fedOf, outputsOf}
 use Rattle.converter_spec.proofs.Feeds.{fed-rule, fed-refused, fed-sizes}
 use Rattle.frames_spec.specs.declared.answers.DataLine.{DataLine}
+use Rattle.frames_spec.specs.declared.answers.Last.{Last}
 use Rattle.frames_spec.specs.declared.answers.StartLine.{StartLine}
 use Rattle.frames_spec.specs.Line.{Read, read, lineEnd}
 use Rattle.frames_spec.specs.Frame.{Frame, dataLine, dataAnswer, filled, DataRight}
@@ -46,7 +47,7 @@ module _ (s : Stream) (bs : List ℕ) (ended : Bool) (room : ℕ) where
     unfolding turnOf
     turn-ends e t = rw (le-ltb room 34 h, e, t)
 
-    pub turn-reads : s .started ≡ true → ended && eqb (length bs) 0 ≡ false → turnOf s bs ended room ≡ dataTurn s (dataLine 64 bs) bs ended room
+    pub turn-reads : s .started ≡ true → ended && eqb (length bs) 0 ≡ false → turnOf s bs ended room ≡ dataTurn s (dataLine (s .last) 64 bs) bs ended room
     unfolding turnOf
     turn-reads e t = rw (le-ltb room 34 h, e, t)
 
@@ -79,26 +80,27 @@ pub start-begun : (bs : List ℕ) {k : StartLine} → k ≡ startAnswer (startLi
 start-begun bs {k} e z = let t = start-taken bs k e z in record { start = t .0; line = t .1; answer = e ∙ ap startAnswer (t .1); size = sym (t .2 .size) }
 
 -- a D line: its samples are the first `count` of the buffer
-pub record Sampled (bs : List ℕ) (d : DataLine) (left : List ℤ) : Type 0 where
+pub record Sampled (bs : List ℕ) (told : Last) (d : DataLine) (left : List ℤ) : Type 0 where
   pub frame : Frame
-  pub line : dataLine 64 bs ≡ read frame
+  pub line : dataLine told 64 bs ≡ read frame
+  pub number : d .sequence ≡ frame .sequence
   pub size : 14 + d .count * 4 ≡ suc (lineEnd bs)
   pub samples : take (d .count) left ≡ frame .samples
   pub count : length (take (d .count) left) ≡ d .count
   pub few : d .count ≤ 64
 
-module _ (bs : List ℕ) {d : DataLine} {old left : List ℤ} (right : DataRight bs old d left) (long : 64 ≡ length old) where
-  pub data-answered : d ≡ dataAnswer (dataLine 64 bs)
-  data-answered = right .answer ∙ ap (λ n. dataAnswer (dataLine n bs)) (sym long)
+module _ (bs : List ℕ) {told : Last} {d : DataLine} {old left : List ℤ} (right : DataRight bs told old d left) (long : 64 ≡ length old) where
+  pub data-answered : d ≡ dataAnswer (dataLine told 64 bs)
+  data-answered = right .answer ∙ ap (λ n. dataAnswer (dataLine told n bs)) (sym long)
 
-  pub data-sampled : d .refusal ≡ 0 → Sampled bs d left
+  pub data-sampled : d .refusal ≡ 0 → Sampled bs told d left
   data-sampled z =
-      let t = taken d 64 bs data-answered z in
+      let t = taken d told 64 bs data-answered z in
       let xs : List ℤ = t .frame .samples in
       let n : d .count ≡ length xs = t .count in
-      let b : left ≡ over xs old = right .buffer ∙ ap (λ n. filled (dataLine n bs) old) (sym long) ∙ ap (λ l. filled l old) (t .is) in
+      let b : left ≡ over xs old = right .buffer ∙ ap (λ n. filled (dataLine told n bs) old) (sym long) ∙ ap (λ l. filled l old) (t .is) in
       let e : take (d .count) left ≡ xs = ap (λ l. take (d .count) l) b ∙ take-at xs (drop (length xs) old) (d .count) (sym n) in
-      record { frame = t .frame; line = t .is; size = omega (arith, n, t .line .size); samples = e; count = ap length e ∙ sym n; few = omega (arith, n, t .line .few) }
+      record { frame = t .frame; line = t .is; number = t .sequence; size = omega (arith, n, t .line .size); samples = e; count = ap length e ∙ sym n; few = omega (arith, n, t .line .few) }
 
 -- ---- a feed
 -- samples that are skipped, at most all of them
@@ -133,20 +135,20 @@ module _ (s : Stream) (xs : List ℤ) (old : List ℕ) {f : Fed} {text : List �
       let r = refusal-by (s .state) xs (spaceIn (length old)) (isState (s .state)) refl in
       (omega (arith, same, r .0), omega (arith, z .1, ap (λ (a : Fed). a .counts .taken) (right .answer)), omega (arith, written, z .2))
 
-  pub feed-refuses : (size : ℕ) {left : List ℕ} → (f .refusal ≡ 0 → ⊥) → left ≡ refusalLine (f .refusal) ++ drop 4 text
-      → Wrote (feedTurn s size answer ys) old (record { stream = s; used = 0; written = 4; next = next.Done }) left
+  pub feed-refuses : (number size : ℕ) {left : List ℕ} → (f .refusal ≡ 0 → ⊥) → left ≡ refusalLine (f .refusal) ++ drop 4 text
+      → Wrote (feedTurn s number size answer ys) old (record { stream = s; used = 0; written = 4; next = next.Done }) left
   unfolding outputLines
-  feed-refuses size bad e =
+  feed-refuses number size bad e =
       let none = refusal-by (s .state) xs (spaceIn (length old)) (isState (s .state)) refl .1 (λ z. bad (same ∙ z)) in
       let kept : text ≡ old = right .text ∙ (λ i. outputLines (none i) ++ drop ((written ∙ ap length none) i * 5) old) in
       rw (ne-eqb (answer .refusal) 0 (λ z. bad (same ∙ z)), ← same)
       (wrote-last (refusalLine (f .refusal)) 4 (refusal-length (f .refusal)) (e ∙ ap (λ t. refusalLine (f .refusal) ++ drop 4 t) kept))
 
-  pub feed-goes : (size : ℕ) {t : Turn} → f .refusal ≡ 0 → ((zs : List ℤ) → length zs ≡ f .counts .written → t ≡ turnAnswer (afterFeed s size f zs))
-      → Wrote (feedTurn s size answer ys) old t text
-  feed-goes size z h =
+  pub feed-goes : (number size : ℕ) {t : Turn} → f .refusal ≡ 0 → ((zs : List ℤ) → length zs ≡ f .counts .written → t ≡ turnAnswer (afterFeed s number size f zs))
+      → Wrote (feedTurn s number size answer ys) old t text
+  feed-goes number size z h =
       rw (eq-eqb (answer .refusal) 0 (sym same ∙ z))
       (record {
-        answer = h ys (sym written) ∙ ap (λ a. turnAnswer (afterFeed s size a ys)) (right .answer);
+        answer = h ys (sym written) ∙ ap (λ a. turnAnswer (afterFeed s number size a ys)) (right .answer);
         buffer = right .text ∙ ap (λ n. outputLines ys ++ drop n old) (ap (λ n. n * 5) written ∙ sym (outputs-length ys));
       })

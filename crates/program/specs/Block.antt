@@ -11,7 +11,7 @@ use Rattle.program_spec.specs.Program.{outputLength, outputLines}
 
 -- the outputs of a block
 abbrev pub blockSize : ℕ
-blockSize = 512
+blockSize = 256
 
 -- a feed with space for n outputs that go to text: its answer f, and the room for text, which held `old` and holds `left` when it returns
 pub record FedText (s : State) (xs : List ℤ) (n : ℕ) (old : List ℕ) (f : Fed) (left : List ℕ) : Type 0 where

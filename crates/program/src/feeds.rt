@@ -16,7 +16,7 @@ ghost use Rattle.program_spec.specs.Turn.{spaceIn};
 ghost use Rattle.program.specs.Block.{blockSize, goesOn, FedText};
 
 // The outputs of a block.
-const BLOCK: usize = 512;
+const BLOCK: usize = 256;
 
 // Space for them.
 fn outputs_block() -> [i16; BLOCK]

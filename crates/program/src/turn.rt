@@ -12,6 +12,7 @@ use converter_state::State;
 use frames_spec::COUNT_LIMIT;
 use frames_spec::FRAME_LENGTH;
 use frames_spec::LINE_LIMIT;
+use frames_spec::Last;
 use frames_spec::SAMPLE_DIGITS;
 use frames_spec::START_LENGTH;
 use kernels::total_clips;
@@ -39,6 +40,7 @@ pub fn open() -> Stream
     Stream {
         state: state,
         started: false,
+        last: Last::None,
         skip: 0,
         outputs: 0,
         clips: 0,
@@ -89,6 +91,7 @@ fn start_turn(s: Stream, bytes: &[u8], ended: bool, text: &mut [u8]) -> Turn
         stream: Stream {
             state: state,
             started: true,
+            last: Last::None,
             skip: 0,
             outputs: 0,
             clips: 0,
@@ -106,11 +109,12 @@ fn samples_block() -> [i16; COUNT_LIMIT]
     [0i16; COUNT_LIMIT]
 }
 
-// The turn of a feed that wrote its outputs as text.
-fn fed_turn(s: Stream, size: usize, fed: Fed) -> Turn
+// The turn of a feed that wrote its outputs as text. The number is the last one where the line is used up.
+fn fed_turn(s: Stream, number: u32, size: usize, fed: Fed) -> Turn
     requires { ⌜ (s .skip + fed .counts .taken < 2 ^ 64) × (fed .counts .written * outputLength < 2 ^ 63) ⌝ }
-    ensures { λ r. ⌜ ((ys : List ℤ) → length ys ≡ fed .counts .written → r ≡ turnAnswer (afterFeed s size fed ys)) ⌝ }
+    ensures { λ r. ⌜ ((ys : List ℤ) → length ys ≡ fed .counts .written → r ≡ turnAnswer (afterFeed s number size fed ys)) ⌝ }
 {
+    let mut last = Last::Number(number);
     let mut used = size;
     let mut skip: usize = 0;
     let counts = fed.counts;
@@ -118,6 +122,7 @@ fn fed_turn(s: Stream, size: usize, fed: Fed) -> Turn
     match end {
         End::Hungry => {}
         End::Full => {
+            last = s.last;
             used = 0;
             skip = s.skip + counts.taken;
         }
@@ -129,6 +134,7 @@ fn fed_turn(s: Stream, size: usize, fed: Fed) -> Turn
         stream: Stream {
             state: state,
             started: true,
+            last: last,
             skip: skip,
             outputs: std::num::wrapping_add_u64(s.outputs, written as u64),
             clips: std::num::wrapping_add_u64(s.clips, clips as u64),
@@ -139,10 +145,10 @@ fn fed_turn(s: Stream, size: usize, fed: Fed) -> Turn
     }
 }
 
-// Feeds the samples of a line that are not taken yet, and writes the outputs as text. The line is `size` bytes long.
-fn feed_turn(s: Stream, size: usize, samples: &[i16], text: &mut [u8]) -> Turn
+// Feeds the samples of a line that are not taken yet, and writes the outputs as text. The line has a number and is `size` bytes long.
+fn feed_turn(s: Stream, number: u32, size: usize, samples: &[i16], text: &mut [u8]) -> Turn
     requires { ⌜ endLength ≤ length (now text) ⌝ }
-    ensures { λ r. ⌜ Wrote (feedTurn s size (fedOf (s .state) (drop (s .skip) (now (samples .entry))) (spaceIn (length (now (text .entry))))) (outputsOf (s .state) (drop (s .skip) (now (samples .entry))) (spaceIn (length (now (text .entry)))))) (now (text .entry)) r (now (text .exit)) ⌝ }
+    ensures { λ r. ⌜ Wrote (feedTurn s number size (fedOf (s .state) (drop (s .skip) (now (samples .entry))) (spaceIn (length (now (text .entry))))) (outputsOf (s .state) (drop (s .skip) (now (samples .entry))) (spaceIn (length (now (text .entry)))))) (now (text .entry)) r (now (text .exit)) ⌝ }
 {
     let skip = least(s.skip, samples.len());
     let fed = feed_text(s.state, &samples[skip..], text);
@@ -155,7 +161,7 @@ fn feed_turn(s: Stream, size: usize, samples: &[i16], text: &mut [u8]) -> Turn
             next: Next::Done,
         };
     }
-    fed_turn(s, size, fed)
+    fed_turn(s, number, size, fed)
 }
 
 // The last turn of a run whose input has ended.
@@ -172,19 +178,21 @@ fn end_turn(s: Stream, text: &mut [u8]) -> Turn
     }
 }
 
-// A turn that reads a D line.
+// A turn that reads a D line, told the last number.
 fn data_turn(s: Stream, bytes: &[u8], ended: bool, text: &mut [u8]) -> Turn
     requires { ⌜ endLength ≤ length (now text) ⌝ }
-    ensures { λ r. ⌜ Wrote (dataTurn s (dataLine countLimit (now (bytes .entry))) (now (bytes .entry)) ended (length (now (text .entry)))) (now (text .entry)) r (now (text .exit)) ⌝ }
+    ensures { λ r. ⌜ Wrote (dataTurn s (dataLine (s .last) countLimit (now (bytes .entry))) (now (bytes .entry)) ended (length (now (text .entry)))) (now (text .entry)) r (now (text .exit)) ⌝ }
 {
     let mut samples = samples_block();
-    let d = frames_read::read_data(bytes, &mut samples);
+    let last = s.last;
+    let d = frames_read::read_data(bytes, last, &mut samples);
     if d.refusal != 0 {
         return refuses(s, d.refusal, bytes.len(), ended, text);
     }
     let count = d.count;
     feed_turn(
         s,
+        d.sequence,
         FRAME_LENGTH + count * SAMPLE_DIGITS,
         &samples[..count],
         text,

@@ -10,8 +10,10 @@ use lib.ListN.{length, take, drop, length-append, length-take, length-drop}
 use lib.Seq.{take-append-le, drop-append-le}
 use Rattle.oscillator_spec.specs.Word.{isWord}
 use Rattle.converter_state.specs.Start.{isKernel}
+use Rattle.frames_spec.specs.declared.answers.Last.{Last}
+use Rattle.frames_spec.specs.declared.answers.Last.the-variants as last
 use Rattle.frames_spec.specs.Line.{before10, lineEnd, hasEnd, allDigits, Read, read, refused, refuseUnless, andThen, afterLetter, lineDigits, rest}
-use Rattle.frames_spec.specs.Frame.{Frame, countOf, hasLength, checkHolds, frameOf, dataLine}
+use Rattle.frames_spec.specs.Frame.{Frame, sequenceOf, countOf, hasLength, checkHolds, isNext, frameOf, dataLine, toldNext}
 use Rattle.frames_spec.specs.StartLine.{startOf, startLine}
 use Rattle.program_spec.specs.Program.{joining, receivedBy, receivedIn, received}
 
@@ -105,9 +107,12 @@ lines-of letter f h = record {
   other = λ bs e. other-then (lineDigits letter bs) f (line-other letter bs e) h;
 }
 
-pub data-lines : (space : ℕ) → Lines (dataLine space)
+pub data-lines : (told : Last) (space : ℕ) → Lines (dataLine told space)
 unfolding dataLine frameOf
-data-lines space = lines-of 68 (frameOf space) (λ ds. other-unless (hasLength ds) (omega arith) (other-unless (checkHolds ds) (omega arith) (other-unless (leb (countOf ds) space) (omega arith) other-read)))
+data-lines told space =
+    lines-of 68 (frameOf told space) (λ ds.
+    other-unless (hasLength ds) (omega arith)
+    (other-unless (checkHolds ds) (omega arith) (other-unless (isNext told (sequenceOf ds)) (omega arith) (other-unless (leb (countOf ds) space) (omega arith) other-read))))
 
 pub start-lines : Lines startLine
 unfolding startLine startOf
@@ -154,44 +159,46 @@ module _ {A : Type 0} {line : List ℕ → Read A} (l : Lines line) (bs : List �
 
 -- ---- what is received
 -- there are no more lines than bytes
-fuel : (f g : ℕ) (bs : List ℕ) → length bs ≤ f → length bs ≤ g → receivedIn f bs ≡ receivedIn g bs
+fuel : (f g : ℕ) (told : Last) (bs : List ℕ) → length bs ≤ f → length bs ≤ g → receivedIn f told bs ≡ receivedIn g told bs
 unfolding receivedIn
-fuel zero zero bs h l = refl
-fuel zero (suc g) [] h l = refl
-fuel zero (suc g) (b ∷ bs) h l = absurd (omega arith)
-fuel (suc f) zero [] h l = refl
-fuel (suc f) zero (b ∷ bs) h l = absurd (omega arith)
-fuel (suc f) (suc g) [] h l = refl
-fuel (suc f) (suc g) (b ∷ bs) h l = go (dataLine 64 (b ∷ bs)) (λ zs m. fuel f g zs (omega arith) (omega arith))
+fuel zero zero told bs h l = refl
+fuel zero (suc g) told [] h l = refl
+fuel zero (suc g) told (b ∷ bs) h l = absurd (omega arith)
+fuel (suc f) zero told [] h l = refl
+fuel (suc f) zero told (b ∷ bs) h l = absurd (omega arith)
+fuel (suc f) (suc g) told [] h l = refl
+fuel (suc f) (suc g) told (b ∷ bs) h l = go _ (dataLine told 64 (b ∷ bs)) (λ t zs m. fuel f g t zs (omega arith) (omega arith))
   where
-    go : (r : Read Frame) → ((zs : List ℕ) → length zs ≤ length bs → receivedIn f zs ≡ receivedIn g zs)
-        → receivedBy r (receivedIn f (rest r (b ∷ bs))) ≡ receivedBy r (receivedIn g (rest r (b ∷ bs)))
-    go (read x) k = ap (joining (x .samples)) (k _ (omega (arith, length-drop (lineEnd (b ∷ bs)) bs)))
-    go (refused n) k = refl
+    go : (then : Last) (r : Read Frame) → ((t : Last) (zs : List ℕ) → length zs ≤ length bs → receivedIn f t zs ≡ receivedIn g t zs)
+        → receivedBy r (receivedIn f then (rest r (b ∷ bs))) ≡ receivedBy r (receivedIn g then (rest r (b ∷ bs)))
+    go then (read x) k = ap (joining (x .samples)) (k then _ (omega (arith, length-drop (lineEnd (b ∷ bs)) bs)))
+    go then (refused n) k = refl
 
-pub received-next : (bs : List ℕ) → 0 < length bs → received bs ≡ receivedBy (dataLine 64 bs) (received (rest (dataLine 64 bs) bs))
+pub received-next : (told : Last) (bs : List ℕ) → 0 < length bs
+    → received told bs ≡ receivedBy (dataLine told 64 bs) (received (toldNext told (dataLine told 64 bs)) (rest (dataLine told 64 bs) bs))
 unfolding received receivedIn
-received-next [] h = absurd (omega arith)
-received-next (b ∷ bs) h = go (dataLine 64 (b ∷ bs))
+received-next told [] h = absurd (omega arith)
+received-next told (b ∷ bs) h = go (dataLine told 64 (b ∷ bs))
   where
-    go : (r : Read Frame) → receivedBy r (receivedIn (length bs) (rest r (b ∷ bs))) ≡ receivedBy r (received (rest r (b ∷ bs)))
+    go : (r : Read Frame) → receivedBy r (receivedIn (length bs) (toldNext told r) (rest r (b ∷ bs))) ≡ receivedBy r (received (toldNext told r) (rest r (b ∷ bs)))
     go (read x) =
         let zs : List ℕ = drop (lineEnd (b ∷ bs)) bs in
-        ap (joining (x .samples)) (fuel (length bs) (length zs) zs (omega (arith, length-drop (lineEnd (b ∷ bs)) bs)) (omega arith))
+        ap (joining (x .samples)) (fuel (length bs) (length zs) (last.Number (x .sequence)) zs (omega (arith, length-drop (lineEnd (b ∷ bs)) bs)) (omega arith))
     go (refused n) = refl
 
 -- by the line at the front, where more bytes follow
-pub received-read : (bs more : List ℕ) {f : Frame} → dataLine 64 bs ≡ read f → received (bs ++ more) ≡ joining (f .samples) (received (past bs ++ more))
-received-read bs more {f} e =
-    let l = data-lines 64 in
+pub received-read : (told : Last) (bs more : List ℕ) {f : Frame} → dataLine told 64 bs ≡ read f
+    → received told (bs ++ more) ≡ joining (f .samples) (received (last.Number (f .sequence)) (past bs ++ more))
+received-read told bs more {f} e =
+    let l = data-lines told 64 in
     let h = read-ends l bs e in
-    received-next (bs ++ more) (omega (arith, ends-more bs more h .1, length-append bs more))
-    ∙ ap (λ r. receivedBy r (received (rest r (bs ++ more)))) (read-more l bs e more)
-    ∙ ap (λ zs. joining (f .samples) (received zs)) (past-more bs more h)
+    received-next told (bs ++ more) (omega (arith, ends-more bs more h .1, length-append bs more))
+    ∙ ap (λ r. receivedBy r (received (toldNext told r) (rest r (bs ++ more)))) (read-more l bs e more)
+    ∙ ap (λ zs. joining (f .samples) (received (last.Number (f .sequence)) zs)) (past-more bs more h)
 
-pub received-refused : (bs : List ℕ) {n : ℕ} → 0 < length bs → dataLine 64 bs ≡ refused n → received bs ≡ record { samples = []; refusal = n }
-received-refused bs h e = received-next bs h ∙ ap (λ r. receivedBy r (received (rest r bs))) e
+pub received-refused : (told : Last) (bs : List ℕ) {n : ℕ} → 0 < length bs → dataLine told 64 bs ≡ refused n → received told bs ≡ record { samples = []; refusal = n }
+received-refused told bs h e = received-next told bs h ∙ ap (λ r. receivedBy r (received (toldNext told r) (rest r bs))) e
 
-pub received-none : received [] ≡ record { samples = []; refusal = 0 }
+pub received-none : (told : Last) → received told [] ≡ record { samples = []; refusal = 0 }
 unfolding received receivedIn
-received-none = refl
+received-none told = refl

@@ -9,5 +9,9 @@ pub mod TurnSizes
 pub mod TurnsGoOn
 pub mod Moving
 pub mod ProgramExamples
+pub mod LinesReceived
 pub mod Replayed
+pub mod AcceptedLines
+pub mod ReceivedOrder
+pub mod SwappedLines
 pub mod ReplayExamples

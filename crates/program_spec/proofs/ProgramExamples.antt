@@ -1,4 +1,4 @@
--- The two runs of the program that document 01 prints ("Frame lines"), of the definition `program`, by computation.
+-- The two runs of the program that document 01 prints ("Frame lines"), and one of request U4, of the definition `program`, by computation.
 use mathlib.Core.Path.{_≡_, refl}
 use mathlib.Core.List.{List, [], _∷_, _++_}
 use Prim.Native.Nat.{ℕ, zero, suc}
@@ -11,7 +11,7 @@ use Rattle.converter_state.specs.Start.{isKernel, lastRead}
 use Rattle.converter_spec.specs.Paper.{countIn, count}
 use Rattle.converter_spec.specs.Demand.{clipsAt}
 use Rattle.frames_spec.specs.Line.{before10, lineEnd, hasEnd, digitValue, allDigits, numberAfter, byteSum, digitOf, digitsOf, afterLetter, lineDigits}
-use Rattle.frames_spec.specs.Frame.{frameSamples, hasLength, checkHolds, frameOf, dataLine}
+use Rattle.frames_spec.specs.Frame.{frameSamples, hasLength, checkHolds, isNext, frameOf, dataLine}
 use Rattle.frames_spec.specs.StartLine.{startOf, startLine}
 use Rattle.program_spec.specs.Program.{outputLine, outputLines, endLine, refusalLine, receivedIn, received, converts, program}
 
@@ -33,13 +33,19 @@ pub too-few : program (start 14) ≡ 82 ∷ 48 ∷ 57 ∷ 10 ∷ []
 unfolding before10 lineEnd hasEnd digitValue allDigits afterLetter lineDigits startOf startLine refusalLine program
 too-few = refl
 
--- "`R` and two decimal digits": `R01` and `R10`
-pub refusals : (refusalLine 1 ≡ 82 ∷ 48 ∷ 49 ∷ 10 ∷ []) × (refusalLine 10 ≡ 82 ∷ 49 ∷ 48 ∷ 10 ∷ [])
+-- "`R` and two decimal digits": `R01`, `R10` and `R15`
+pub refusals : (refusalLine 1 ≡ 82 ∷ 48 ∷ 49 ∷ 10 ∷ []) × (refusalLine 10 ≡ 82 ∷ 49 ∷ 48 ∷ 10 ∷ []) × (refusalLine 15 ≡ 82 ∷ 49 ∷ 53 ∷ 10 ∷ [])
 unfolding refusalLine
-refusals = (refl, refl)
+refusals = (refl, refl, refl)
 
 -- `0000`, `0032`, `0064`, `0046` and `E00000000000000040000000000000000`, a line each
 pub half-word : program (start 15 ++ frame) ≡ zeros 4 ++
     (10 ∷ 48 ∷ 48 ∷ 51 ∷ 50 ∷ 10 ∷ 48 ∷ 48 ∷ 54 ∷ 52 ∷ 10 ∷ 48 ∷ 48 ∷ 52 ∷ 54 ∷ 10 ∷ 69 ∷ (zeros 15 ++ (52 ∷ (zeros 16 ++ (10 ∷ [])))))
-unfolding before10 lineEnd hasEnd digitValue allDigits numberAfter byteSum digitOf digitsOf afterLetter lineDigits startOf startLine isKernel isWord frameSamples hasLength checkHolds frameOf dataLine kernelOf basepoint fraction fourteenBits column polynomial numerator unit nearestWhole rounded held output outside noClips plus total clipsOf clips joinedAt filterFraction value valueClips lastRead countIn count clipsAt outputLine outputLines endLine refusalLine receivedIn received converts program
+unfolding before10 lineEnd hasEnd digitValue allDigits numberAfter byteSum digitOf digitsOf afterLetter lineDigits startOf startLine isKernel isWord frameSamples hasLength checkHolds isNext frameOf dataLine kernelOf basepoint fraction fourteenBits column polynomial numerator unit nearestWhole rounded held output outside noClips plus total clipsOf clips joinedAt filterFraction value valueClips lastRead countIn count clipsAt outputLine outputLines endLine refusalLine receivedIn received converts program
 half-word = refl
+
+-- the same line sent twice: the outputs of the first, and `R15` (request U4)
+pub sent-twice : program (start 15 ++ (frame ++ frame)) ≡ zeros 4 ++
+    (10 ∷ 48 ∷ 48 ∷ 51 ∷ 50 ∷ 10 ∷ 48 ∷ 48 ∷ 54 ∷ 52 ∷ 10 ∷ 48 ∷ 48 ∷ 52 ∷ 54 ∷ 10 ∷ 82 ∷ 49 ∷ 53 ∷ 10 ∷ [])
+unfolding before10 lineEnd hasEnd digitValue allDigits numberAfter byteSum digitOf digitsOf afterLetter lineDigits startOf startLine isKernel isWord frameSamples hasLength checkHolds isNext frameOf dataLine kernelOf basepoint fraction fourteenBits column polynomial numerator unit nearestWhole rounded held output outside noClips plus total clipsOf clips joinedAt filterFraction value valueClips lastRead countIn count clipsAt outputLine outputLines endLine refusalLine receivedIn received converts program
+sent-twice = refl

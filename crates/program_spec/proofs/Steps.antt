@@ -29,6 +29,8 @@ use Rattle.converter_state.proofs.States.{start-word}
 use Rattle.converter_spec.proofs.Runs.{Ending, full, hungry, rule-ending, rule-written}
 use Rattle.converter_spec.proofs.Feeds.{fed-rule}
 use Rattle.converter_spec.proofs.Follows.{last, Sync, needed-is, sync-state, start-sync, alike, Placed, follows}
+use Rattle.frames_spec.specs.declared.answers.Last.{Last}
+use Rattle.frames_spec.specs.declared.answers.Last.the-variants as last
 use Rattle.frames_spec.specs.Line.{before10, lineEnd, hasEnd, digitsOf, Read, read, refused, rest}
 use Rattle.frames_spec.specs.Frame.{Frame, dataLine}
 use Rattle.frames_spec.specs.StartLine.{Start, startLine}
@@ -49,12 +51,12 @@ pub data Stage : Type 0 where
 -- what is still written over the bytes that are left
 abbrev pub still : Stream → Stage → List ℕ → List ℕ
 still s before bs = program bs
-still s (beside p c) bs = finishes p c (drop (s .skip) (received bs .samples)) (received bs .refusal)
+still s (beside p c) bs = finishes p c (drop (s .skip) (received (s .last) bs .samples)) (received (s .last) bs .refusal)
 
--- a line is begun with a sample needed; or the bytes at hand begin with it, and it has all the samples that are skipped
+-- a line is begun with a sample needed; or the bytes at hand begin with it, as a reader finds that is told what the stream holds, and it has all the samples that are skipped
 pub data Front (s : Stream) (u : List ℕ) : Type 0 where
   whole : s .skip ≡ 0 → 1 ≤ s .state .needed → Front s u
-  within : {f : Frame} → dataLine 64 u ≡ read f → s .skip ≤ length (f .samples) → Front s u
+  within : {f : Frame} → dataLine (s .last) 64 u ≡ read f → s .skip ≤ length (f .samples) → Front s u
 
 pub record Beside (s : Stream) (u : List ℕ) (p : Paper) (c : Clips) : Type 0 where
   pub running : s .started ≡ true
@@ -74,7 +76,7 @@ stands-more s u (beside p c) bs h = record { running = h .running; sync = h .syn
   where
     go : Front s u → Front s (u ++ bs)
     go (whole z n) = whole z n
-    go (within e l) = within (read-more (data-lines 64) u e bs) l
+    go (within e l) = within (read-more (data-lines (s .last) 64) u e bs) l
 
 -- ---- what a turn does
 -- whichever way a test goes
@@ -103,10 +105,10 @@ program-refused : (bs : List ℕ) (n : ℕ) → startLine bs ≡ refused n → p
 unfolding program
 program-refused bs n e = ap (λ r. programBy r (rest r bs)) e
 
-program-read : (bs : List ℕ) (k : Start) → startLine bs ≡ read k → (more : List ℕ) → program (bs ++ more) ≡ converts k (received (past bs ++ more))
+program-read : (bs : List ℕ) (k : Start) → startLine bs ≡ read k → (more : List ℕ) → program (bs ++ more) ≡ converts k (received last.None (past bs ++ more))
 unfolding program
 program-read bs k e more =
-    ap (λ r. programBy r (rest r (bs ++ more))) (read-more start-lines bs e more) ∙ ap (λ zs. converts k (received zs)) (past-more bs more (read-ends start-lines bs e))
+    ap (λ r. programBy r (rest r (bs ++ more))) (read-more start-lines bs e more) ∙ ap (λ zs. converts k (received last.None zs)) (past-more bs more (read-ends start-lines bs e))
 
 converts-is : (k : Start) (r : Received) → converts k r ≡ finishes (paperAt k) noClips (r .samples) (r .refusal)
 unfolding converts finishes
@@ -136,19 +138,19 @@ end-line o c =
     λ i. 69 ∷ digitsOf 16 (a i) ++ digitsOf 16 (b i) ++ (10 ∷ [])
 
 -- there are bytes at hand where a D line is refused
-at-hand : (u : List ℕ) (ended : Bool) (n : ℕ) → dataLine 64 u ≡ refused n → ended && eqb (length u) 0 ≡ false → eqb n 6 && not ended && ltb (length u) 270 ≡ false → 0 < length u
+at-hand : (told : Last) (u : List ℕ) (ended : Bool) (n : ℕ) → dataLine told 64 u ≡ refused n → ended && eqb (length u) 0 ≡ false → eqb n 6 && not ended && ltb (length u) 270 ≡ false → 0 < length u
 unfolding hasEnd lineEnd before10
-at-hand (b ∷ bs) ended n e h t = omega arith
-at-hand [] true n e h t = absurd (true≢false h)
-at-hand [] false n e h t = let q = data-lines 64 .none [] refl in let i : n ≡ 6 = cc in absurd (true≢false (rw i at t))
+at-hand told (b ∷ bs) ended n e h t = omega arith
+at-hand told [] true n e h t = absurd (true≢false h)
+at-hand told [] false n e h t = let q = data-lines told 64 .none [] refl in let i : n ≡ 6 = cc in absurd (true≢false (rw i at t))
 
 none-of : (xs : List ℕ) → length xs ≡ 0 → xs ≡ []
 none-of [] e = refl
 none-of (x ∷ xs) e = absurd (omega (arith, e))
 
 -- no sample comes, and no line is at the front
-module _ {s : Stream} {u : List ℕ} {p : Paper} {c : Clips} (y : Beside s u p c) (none : (f : Frame) → dataLine 64 u ≡ read f → ⊥) where
-  last-still : (n : ℕ) (zs : List ℕ) → received zs ≡ record { samples = []; refusal = n } → still s (beside p c) zs ≡ lastLine n (p .made) (total c)
+module _ {s : Stream} {u : List ℕ} {p : Paper} {c : Clips} (y : Beside s u p c) (none : (f : Frame) → dataLine (s .last) 64 u ≡ read f → ⊥) where
+  last-still : (n : ℕ) (zs : List ℕ) → received (s .last) zs ≡ record { samples = []; refusal = n } → still s (beside p c) zs ≡ lastLine n (p .made) (total c)
   last-still n zs e =
       ap (λ (r : Received). finishes p c (drop (s .skip) (r .samples)) (r .refusal)) e
       ∙ ap (λ xs. finishes p c xs n) (drop-nil (s .skip))
@@ -174,12 +176,12 @@ module _ (s : Stream) (u : List ℕ) (ended : Bool) where
 
   -- the K line
   start-step : s .started ≡ false → (r : Read Start) → startLine u ≡ r → Stepped s u before ended (startTurn s r u ended)
-  start-step y (read k) e = goes (beside (paperAt k) noClips) (start-beside s u _ ended k e) tt (λ more. program-read u k e more ∙ converts-is k (received (past u ++ more)))
+  start-step y (read k) e = goes (beside (paperAt k) noClips) (start-beside s u _ ended k e) tt (λ more. program-read u k e more ∙ converts-is k (received last.None (past u ++ more)))
   start-step y (refused n) e = refuses-step start-lines before y n e (λ t more e′. program-refused (u ++ more) n e′)
 
   module _ (p : Paper) (c : Clips) (y : Beside s u p c) where
     -- a D line whose samples, but those that are skipped, are fed: the run r of the rule
-    module _ {f : Frame} (e : dataLine 64 u ≡ read f) where
+    module _ {f : Frame} (e : dataLine (s .last) 64 u ≡ read f) where
       skipped : s .skip ≤ length (f .samples)
       skipped = go (y .front)
         where
@@ -189,13 +191,13 @@ module _ (s : Stream) (u : List ℕ) (ended : Bool) where
 
       -- what is received after it
       abbrev later : List ℕ → Received
-      later more = received (past u ++ more)
+      later more = received (last.Number (f .sequence)) (past u ++ more)
 
       -- what is still written from a paper on, k of the line's samples skipped
       read-still : (q : Paper) (d : Clips) (k : ℕ) → k ≤ length (f .samples) → (more : List ℕ)
-          → finishes q d (drop k (received (u ++ more) .samples)) (received (u ++ more) .refusal) ≡ finishes q d (drop k (f .samples) ++ later more .samples) (later more .refusal)
+          → finishes q d (drop k (received (s .last) (u ++ more) .samples)) (received (s .last) (u ++ more) .refusal) ≡ finishes q d (drop k (f .samples) ++ later more .samples) (later more .refusal)
       read-still q d k l more =
-          ap (λ (t : Received). finishes q d (drop k (t .samples)) (t .refusal)) (received-read u more e)
+          ap (λ (t : Received). finishes q d (drop k (t .samples)) (t .refusal)) (received-read (s .last) u more e)
           ∙ ap (λ xs. finishes q d xs (later more .refusal)) (drop-append-le k (f .samples) (later more .samples) l)
 
       module _ (r : Ran) (z : Placed p (drop (s .skip) (f .samples)) r) (w : r .counts .written ≡ length (r .outputs)) where
@@ -211,7 +213,7 @@ module _ (s : Stream) (u : List ℕ) (ended : Bool) where
 
         -- the turn, where the run ended so
         abbrev fed : End → Result
-        fed end = afterFeed s (suc (lineEnd u)) (accepted (ran (r .state) (counts (r .counts .taken) (r .counts .written) (r .counts .clips) end) (r .outputs))) (r .outputs)
+        fed end = afterFeed s (f .sequence) (suc (lineEnd u)) (accepted (ran (r .state) (counts (r .counts .taken) (r .counts .written) (r .counts .clips) end) (r .outputs))) (r .outputs)
 
         fed-still : (more : List ℕ) → still s (beside p c) (u ++ more) ≡ left (drop (r .counts .taken) xs) more
         fed-still more = read-still p c (s .skip) skipped more ∙ finishes-fed p xs r (y .sync .sound .above) z c (later more .samples) (later more .refusal)
@@ -239,19 +241,19 @@ module _ (s : Stream) (u : List ℕ) (ended : Bool) where
             (goes (beside on (plus c (r .counts .clips))) (fed-beside HUNGRY (past u) (whole refl i)) tt (λ more.
             fed-still more ∙ ap (λ zs. left zs more) (ap (λ k. drop k xs) l ∙ drop-length xs)))
 
-    refused-still : (n : ℕ) → dataLine 64 u ≡ refused n → (zs : List ℕ) → 0 < length zs → dataLine 64 zs ≡ refused n → still s (beside p c) zs ≡ refusalLine n
+    refused-still : (n : ℕ) → dataLine (s .last) 64 u ≡ refused n → (zs : List ℕ) → 0 < length zs → dataLine (s .last) 64 zs ≡ refused n → still s (beside p c) zs ≡ refusalLine n
     refused-still n e zs h e′ =
-        let l = refusal-above (data-lines 64) u e in
-        last-still y (λ f d. let i : _≡_ {A = ℕ} 0 1 = cc in omega arith) n zs (received-refused zs h e′)
+        let l = refusal-above (data-lines (s .last) 64) u e in
+        last-still y (λ f d. let i : _≡_ {A = ℕ} 0 1 = cc in omega arith) n zs (received-refused (s .last) zs h e′)
         ∙ ap (λ t. cond t (endLine (p .made) (total c)) (refusalLine n)) (ne-eqb n 0 (λ i. omega arith))
 
-    data-step : (room : ℕ) → ended && eqb (length u) 0 ≡ false → (r : Read Frame) → dataLine 64 u ≡ r → Stepped s u (beside p c) ended (dataTurn s r u ended room)
+    data-step : (room : ℕ) → ended && eqb (length u) 0 ≡ false → (r : Read Frame) → dataLine (s .last) 64 u ≡ r → Stepped s u (beside p c) ended (dataTurn s r u ended room)
     data-step room h (read f) e =
         let xs : List ℤ = drop (s .skip) (f .samples) in
         let n : ℕ = spaceIn room in
         let t = fed-rule (s .state) (sync-state (y .sync)) xs n in
         rw (t .0, t .1) (fed-step e (rule xs n (s .state)) (follows xs n (s .state) p (y .sync)) (rule-written xs n (s .state)) (rule-ending xs n (s .state)))
-    data-step room h (refused n) e = refuses-step (data-lines 64) (beside p c) y n e (λ t more e′. refused-still n e (u ++ more) (omega (arith, at-hand u ended n e h t, length-append u more)) e′)
+    data-step room h (refused n) e = refuses-step (data-lines (s .last) 64) (beside p c) y n e (λ t more e′. refused-still n e (u ++ more) (omega (arith, at-hand (s .last) u ended n e h t, length-append u more)) e′)
 
     end-step : ended && eqb (length u) 0 ≡ true → Stepped s u (beside p c) ended (ends s (endLine (s .outputs) (s .clips)))
     end-step h =
@@ -259,7 +261,7 @@ module _ (s : Stream) (u : List ℕ) (ended : Bool) where
         let l : length u ≡ 0 = eqb-true (length u) 0 (t .1) in
         done refl (λ more z.
         ap (still s (beside p c)) (λ i. none-of u l i ++ z (t .0) i)
-        ∙ last-still y (λ f e. omega (arith, ends-more u [] (read-ends (data-lines 64) u e) .1)) 0 [] received-none
+        ∙ last-still y (λ f e. omega (arith, ends-more u [] (read-ends (data-lines (s .last) 64) u e) .1)) 0 [] (received-none (s .last))
         ∙ sym (end-line (p .made) (total c))
         ∙ (λ i. endLine (sym (y .outputs) i) (sym (y .clips) i)))
 
@@ -268,10 +270,10 @@ module _ (s : Stream) (u : List ℕ) (ended : Bool) where
   step room g y = by-test (Stepped s u g ended) (ltb room 34) (λ t. asks-step g _ tt y) (λ t. go g y)
     where
       go : (g : Stage) → Stands s u g → Stepped s u g ended (cond (s .started)
-          (cond (ended && eqb (length u) 0) (ends s (endLine (s .outputs) (s .clips))) (dataTurn s (dataLine 64 u) u ended room))
+          (cond (ended && eqb (length u) 0) (ends s (endLine (s .outputs) (s .clips))) (dataTurn s (dataLine (s .last) 64 u) u ended room))
           (startTurn s (startLine u) u ended))
       go before y = by-test (Stepped s u before ended) (s .started) (λ t. absurd (true≢false (sym t ∙ y))) (λ t. start-step y (startLine u) refl)
       go (beside p c) y =
           by-test (Stepped s u (beside p c) ended) (s .started)
-          (λ t. by-test (Stepped s u (beside p c) ended) (ended && eqb (length u) 0) (λ h. end-step p c y h) (λ h. data-step p c y room h (dataLine 64 u) refl))
+          (λ t. by-test (Stepped s u (beside p c) ended) (ended && eqb (length u) 0) (λ h. end-step p c y h) (λ h. data-step p c y room h (dataLine (s .last) 64 u) refl))
           (λ t. absurd (true≢false (sym (y .running) ∙ t)))

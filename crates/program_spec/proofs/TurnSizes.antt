@@ -45,13 +45,13 @@ module _ (s : Stream) (bs : List ℕ) (ended : Bool) (room : ℕ) (h : 34 ≤ ro
   start-in (read k) e = record { used = (let b = begun bs k e in let z = b .size in let w = b .whole in omega arith); written = omega arith }
   start-in (refused n) e = refuses-in n
 
-  data-in : (r : Read Frame) → dataLine 64 bs ≡ r → FitsIn (length bs) room (dataTurn s r bs ended room)
+  data-in : (r : Read Frame) → dataLine (s .last) 64 bs ≡ r → FitsIn (length bs) room (dataTurn s r bs ended room)
   data-in (read f) e =
       let xs : List ℤ = drop (s .skip) (f .samples) in
       let a : Fed = fedOf (s .state) xs (spaceIn room) in
       let ys : List ℤ = outputsOf (s .state) xs (spaceIn room) in
       let size : length (outputLines ys) ≤ room = (let l = outputs-length ys in let n = fed-sizes (s .state) xs (spaceIn room) .2 in omega arith) in
-      by-test (FitsIn (length bs) room) (eqb (a .refusal) 0) (λ t. record { used = used-in (isHungry (a .counts .end)) (framed 64 bs f e .whole); written = size })
+      by-test (FitsIn (length bs) room) (eqb (a .refusal) 0) (λ t. record { used = used-in (isHungry (a .counts .end)) (framed (s .last) 64 bs f e .whole); written = size })
       (λ t. ends-in (refusalLine (a .refusal)) (let z = refusal-length (a .refusal) in omega arith))
   data-in (refused n) e = refuses-in n
 
@@ -61,7 +61,7 @@ turn-fits s bs ended room = by-test (FitsIn (length bs) room) (ltb room 34) (λ 
     (λ e. let h : 34 ≤ room = ltb-false room 34 e in
     by-test (FitsIn (length bs) room) (s .started)
     (λ t. by-test (FitsIn (length bs) room) (ended && eqb (length bs) 0) (λ z. ends-in s bs ended room h (endLine (s .outputs) (s .clips)) (let l = end-length (s .outputs) (s .clips) in omega arith))
-    (λ z. data-in s bs ended room h (dataLine 64 bs) refl))
+    (λ z. data-in s bs ended room h (dataLine (s .last) 64 bs) refl))
     (λ t. start-in s bs ended room h (startLine bs) refl))
 
 -- the same of what a call answers, and the room keeps its length

@@ -53,24 +53,24 @@ module _ (s : Stream) (bs : List ℕ) (ended : Bool) (room : ℕ) where
   start-pays (refused n) e = refuses-pays start-lines n e
 
   -- a feed uses the line up, or fills its space
-  ran-pays : (n k : ℕ) {xs : List ℤ} (r : Ran) → 1 ≤ n → Ending xs n r → Pays (afterFeed s (suc k) (accepted r) (r .outputs))
-  ran-pays n k r h (full a b l i) = omega (arith, outputs-length (r .outputs))
-  ran-pays n k r h (hungry a b l i) = let e : cond (isHungry (r .counts .end)) (suc k) 0 ≡ suc k = ap (λ t. cond (isHungry t) (suc k) 0) a in omega arith
+  ran-pays : (number n k : ℕ) {xs : List ℤ} (r : Ran) → 1 ≤ n → Ending xs n r → Pays (afterFeed s number (suc k) (accepted r) (r .outputs))
+  ran-pays number n k r h (full a b l i) = omega (arith, outputs-length (r .outputs))
+  ran-pays number n k r h (hungry a b l i) = let e : cond (isHungry (r .counts .end)) (suc k) 0 ≡ suc k = ap (λ t. cond (isHungry t) (suc k) 0) a in omega arith
 
-  fed-pays : (k n : ℕ) (xs : List ℤ) → 1 ≤ n → (b : Bool) → isState (s .state) ≡ b → Pays (feedTurn s (suc k) (fedOf (s .state) xs n) (outputsOf (s .state) xs n))
-  fed-pays k n xs h true e = let t = fed-rule (s .state) e xs n in rw (t .0, t .1) (ran-pays n k (rule xs n (s .state)) h (rule-ending xs n (s .state)))
-  fed-pays k n xs h false e = rw (fed-refused (s .state) e xs n .0) tt
+  fed-pays : (number k n : ℕ) (xs : List ℤ) → 1 ≤ n → (b : Bool) → isState (s .state) ≡ b → Pays (feedTurn s number (suc k) (fedOf (s .state) xs n) (outputsOf (s .state) xs n))
+  fed-pays number k n xs h true e = let t = fed-rule (s .state) e xs n in rw (t .0, t .1) (ran-pays number n k (rule xs n (s .state)) h (rule-ending xs n (s .state)))
+  fed-pays number k n xs h false e = rw (fed-refused (s .state) e xs n .0) tt
 
-  data-pays : 34 ≤ room → (r : Read Frame) → dataLine 64 bs ≡ r → Pays (dataTurn s r bs ended room)
-  data-pays h (read f) e = fed-pays (lineEnd bs) (spaceIn room) (drop (s .skip) (f .samples)) (omega arith) (isState (s .state)) refl
-  data-pays h (refused n) e = refuses-pays (data-lines 64) n e
+  data-pays : 34 ≤ room → (r : Read Frame) → dataLine (s .last) 64 bs ≡ r → Pays (dataTurn s r bs ended room)
+  data-pays h (read f) e = fed-pays (f .sequence) (lineEnd bs) (spaceIn room) (drop (s .skip) (f .samples)) (omega arith) (isState (s .state)) refl
+  data-pays h (refused n) e = refuses-pays (data-lines (s .last) 64) n e
 
   pays : Pays (turnOf s bs ended room)
   unfolding turnOf
   pays =
       by-test Pays (ltb room 34) (λ t. ltb-true room 34 t) (λ t.
       by-test Pays (s .started) (λ a.
-      by-test Pays (ended && eqb (length bs) 0) (λ b. tt) (λ b. data-pays (ltb-false room 34 t) (dataLine 64 bs) refl))
+      by-test Pays (ended && eqb (length bs) 0) (λ b. tt) (λ b. data-pays (ltb-false room 34 t) (dataLine (s .last) 64 bs) refl))
       (λ a. start-pays (startLine bs) refl))
 
 pub turns-go-on : TurnsGoOn

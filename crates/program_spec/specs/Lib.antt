@@ -2,3 +2,4 @@ pub mod Program
 pub mod Turn
 pub mod WholeRun
 pub mod Replay
+pub mod ReceivedInOrder

@@ -1,4 +1,4 @@
--- The program (document 01, "Frame lines"): what it writes, from the whole of its input. Definitions only.
+-- The program (document 01, "Frame lines"; request U4, "Frames out of order"): what it writes, from the whole of its input. Definitions only.
 use mathlib.Core.Bool.{cond}
 use mathlib.Core.List.{List, [], _∷_, _++_, map}
 use Prim.Native.Nat.{ℕ, zero, suc, _+_, _/_, _%_, _^_}
@@ -12,8 +12,10 @@ use Rattle.kernels_spec.specs.Clips.{total}
 use Rattle.kernels_spec.specs.Value.{value}
 use Rattle.converter_spec.specs.Paper.{positionsOver}
 use Rattle.converter_spec.specs.Demand.{clipsAt}
+use Rattle.frames_spec.specs.declared.answers.Last.{Last}
+use Rattle.frames_spec.specs.declared.answers.Last.the-variants as last
 use Rattle.frames_spec.specs.Line.{Read, read, refused, digitsOf, rest}
-use Rattle.frames_spec.specs.Frame.{Frame, countLimit, dataLine}
+use Rattle.frames_spec.specs.Frame.{Frame, countLimit, dataLine, toldNext}
 use Rattle.frames_spec.specs.StartLine.{Start, startLine}
 
 -- ---- lines
@@ -60,14 +62,15 @@ abbrev pub receivedBy : Read Frame → Received → Received
 receivedBy (read f) follows = joining (f .samples) follows
 receivedBy (refused n) follows = record { samples = []; refusal = n }
 
--- "then D lines from standard input", at most f of them; there are no more lines than bytes (law `received-next`). The program's sample buffer holds as many samples as a line has at the most
-unfoldable pub receivedIn : ℕ → List ℕ → Received
-receivedIn zero bs = record { samples = []; refusal = 0 }
-receivedIn (suc f) [] = record { samples = []; refusal = 0 }
-receivedIn (suc f) (b ∷ bs) = let line = dataLine countLimit (b ∷ bs) in receivedBy line (receivedIn f (rest line (b ∷ bs)))
+-- "then D lines from standard input", at most f of them; there are no more lines than bytes (law `received-next`). "The reader is told the last number accepted" by the program, which goes on
+-- from line to line. The program's sample buffer holds as many samples as a line has at the most
+unfoldable pub receivedIn : ℕ → Last → List ℕ → Received
+receivedIn zero told bs = record { samples = []; refusal = 0 }
+receivedIn (suc f) told [] = record { samples = []; refusal = 0 }
+receivedIn (suc f) told (b ∷ bs) = let line = dataLine told countLimit (b ∷ bs) in receivedBy line (receivedIn f (toldNext told line) (rest line (b ∷ bs)))
 
-unfoldable pub received : List ℕ → Received
-received bs = receivedIn (length bs) bs
+unfoldable pub received : Last → List ℕ → Received
+received told bs = receivedIn (length bs) told bs
 
 -- ---- output
 -- "at end of input `E`"; "A refused line gives `R` .., and the program stops without an `E` line"
@@ -81,9 +84,9 @@ converts k r =
     let at = positionsOver κ (oscillator (k .phase) (k .word)) (length (r .samples)) in
     outputLines (map (value κ (r .samples)) at) ++ lastLine (r .refusal) (length at) (total (clipsAt κ (r .samples) at))
 
--- "The program reads one K line and then D lines"
+-- "The program reads one K line and then D lines", of which the first may have any number
 abbrev pub programBy : Read Start → List ℕ → List ℕ
-programBy (read k) bs = converts k (received bs)
+programBy (read k) bs = converts k (received last.None bs)
 programBy (refused n) bs = refusalLine n
 
 unfoldable pub program : List ℕ → List ℕ

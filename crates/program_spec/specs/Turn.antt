@@ -14,6 +14,7 @@ use Rattle.converter_spec.specs.declared.feeding.End.the-variants as end
 use Rattle.converter_state.specs.Start.{noState, started}
 use Rattle.bytes_spec.specs.Overwritten.{over}
 use Rattle.converter_spec.specs.Feeding.{fedOf, outputsOf}
+use Rattle.frames_spec.specs.declared.answers.Last.the-variants as last
 use Rattle.frames_spec.specs.Line.{lineLimit, Read, read, refused, used}
 use Rattle.frames_spec.specs.Frame.{Frame, countLimit, dataLine}
 use Rattle.frames_spec.specs.StartLine.{Start, startLine}
@@ -25,7 +26,7 @@ use Rattle.program_spec.specs.Program.{outputLength, outputLines, endLin
 
 -- the stream before the K line
 abbrev pub opened : Stream
-opened = record { state = noState; started = false; skip = 0; outputs = 0; clips = 0 }
+opened = record { state = noState; started = false; last = last.None; skip = 0; outputs = 0; clips = 0 }
 
 -- what a turn comes to: the stream after it, how many of the unread bytes it used, the text that it wrote, and what comes next
 pub record Result : Type 0 where
@@ -48,7 +49,7 @@ refuses s n have ended = cond (eqb n 6 && not ended && ltb have lineLimit) (asks
 -- by the K line that the bytes begin with
 abbrev pub startTurn : Stream → Read Start → List ℕ → Bool → Result
 startTurn s (read k) bs ended = record {
-  stream = record { state = started (k .kernel) (setting.Word (k .word)) (k .phase) .state; started = true; skip = 0; outputs = 0; clips = 0 };
+  stream = record { state = started (k .kernel) (setting.Word (k .word)) (k .phase) .state; started = true; last = last.None; skip = 0; outputs = 0; clips = 0 };
   used = used (read k) bs;
   text = [];
   next = next.Again;
@@ -60,13 +61,14 @@ abbrev pub isHungry : End → Bool
 isHungry end.Hungry = true
 isHungry end.Full = false
 
--- a feed of a D line's samples gave the answer a and the outputs ys, the line `size` bytes long: it is used up where the feed ends HUNGRY, and else the next turn skips its samples that are
--- taken. Counts are modulo 2^64
-abbrev pub afterFeed : Stream → ℕ → Fed → List ℤ → Result
-afterFeed s size a ys = record {
+-- a feed of the samples of the D line `number`, `size` bytes long, gave the answer a and the outputs ys: the line is used up where the feed ends HUNGRY, and its number is the last; else the
+-- next turn reads it again, told what this one was, and skips its samples that are taken. Counts are modulo 2^64
+abbrev pub afterFeed : Stream → ℕ → ℕ → Fed → List ℤ → Result
+afterFeed s number size a ys = record {
   stream = record {
     state = a .state;
     started = true;
+    last = cond (isHungry (a .counts .end)) (last.Number number) (s .last);
     skip = cond (isHungry (a .counts .end)) 0 (s .skip + a .counts .taken);
     outputs = (s .outputs + a .counts .written) % 2 ^ 64;
     clips = (s .clips + total (a .counts .clips)) % 2 ^ 64;
@@ -77,8 +79,8 @@ afterFeed s size a ys = record {
 }
 
 -- the same, or the refusal 5 of a state that no run reaches
-abbrev pub feedTurn : Stream → ℕ → Fed → List ℤ → Result
-feedTurn s size a ys = cond (eqb (a .refusal) 0) (afterFeed s size a ys) (ends s (refusalLine (a .refusal)))
+abbrev pub feedTurn : Stream → ℕ → ℕ → Fed → List ℤ → Result
+feedTurn s number size a ys = cond (eqb (a .refusal) 0) (afterFeed s number size a ys) (ends s (refusalLine (a .refusal)))
 
 -- the outputs that so many bytes of text have room for
 abbrev pub spaceIn : ℕ → ℕ
@@ -88,14 +90,14 @@ spaceIn room = room / outputLength
 abbrev pub dataTurn : Stream → Read Frame → List ℕ → Bool → ℕ → Result
 dataTurn s (read f) bs ended room =
     let xs = drop (s .skip) (f .samples) in
-    feedTurn s (used (read f) bs) (fedOf (s .state) xs (spaceIn room)) (outputsOf (s .state) xs (spaceIn room))
+    feedTurn s (f .sequence) (used (read f) bs) (fedOf (s .state) xs (spaceIn room)) (outputsOf (s .state) xs (spaceIn room))
 dataTurn s (refused n) bs ended room = refuses s n (length bs) ended
 
 -- a turn over the unread bytes bs, where the input has ended or may go on, with room for so many bytes of text: room for the longest of the other lines is asked for first
 unfoldable pub turnOf : Stream → List ℕ → Bool → ℕ → Result
 turnOf s bs ended room = cond (ltb room endLength) (asks s next.Write)
     (cond (s .started)
-    (cond (ended && eqb (length bs) 0) (ends s (endLine (s .outputs) (s .clips))) (dataTurn s (dataLine countLimit bs) bs ended room))
+    (cond (ended && eqb (length bs) 0) (ends s (endLine (s .outputs) (s .clips))) (dataTurn s (dataLine (s .last) countLimit bs) bs ended room))
     (startTurn s (startLine bs) bs ended))
 
 -- what the call returns

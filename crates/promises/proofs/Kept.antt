@@ -9,11 +9,14 @@ use Rattle.lanes_spec.proofs.LanesThird.{lanes-third}
 use Rattle.host_spec.proofs.ShownCalls.{on-the-state, host-third}
 use Rattle.host_spec.proofs.ShownLanes.{host-lanes-third}
 use Rattle.host_spec.proofs.LinesBack.{host-round-trips}
+use Rattle.host_spec.proofs.HostLineOrder.{host-in-order}
+use Rattle.frames_spec.proofs.LineOrder.{in-order}
 use Rattle.frames_spec.proofs.TheOneLine.{the-one-line}
 use Rattle.frames_spec.proofs.Writes.{round-trips}
 use Rattle.program_spec.proofs.TurnByTurn.{whole-run}
 use Rattle.program_spec.proofs.TurnsGoOn.{turns-go-on}
 use Rattle.program_spec.proofs.Replayed.{replay}
+use Rattle.program_spec.proofs.ReceivedOrder.{received-in-order}
 use Rattle.promises.specs.Promises.{Promises}
 use Rattle.promises.proofs.StarredExamples.{starred}
 
@@ -36,4 +39,7 @@ promises = record {
   replay = replay;
   host-round-trips = host-round-trips;
   three-point-table = three-point-table;
+  in-order = in-order;
+  received-in-order = received-in-order;
+  host-in-order = host-in-order;
 }

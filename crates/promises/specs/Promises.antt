@@ -8,9 +8,12 @@ use Rattle.lanes_spec.specs.LaneDemand.{OnlyThatLane, LanesThird}
 use Rattle.host_spec.specs.Calls.{OnTheState, HostThird}
 use Rattle.host_spec.specs.LaneCalls.{HostLanesThird}
 use Rattle.host_spec.specs.HostRoundTrips.{HostRoundTrips}
+use Rattle.host_spec.specs.HostOrder.{HostInOrder}
+use Rattle.frames_spec.specs.InOrder.{InOrder}
 use Rattle.frames_spec.specs.RoundTrips.{TheOneLine, RoundTrips}
 use Rattle.program_spec.specs.WholeRun.{WholeRun, TurnsGoOn}
 use Rattle.program_spec.specs.Replay.{Replay}
+use Rattle.program_spec.specs.ReceivedInOrder.{ReceivedInOrder}
 use Rattle.promises.specs.Starred.{Starred}
 
 pub record Promises : Type 0 where
@@ -41,11 +44,20 @@ pub record Promises : Type 0 where
   pub host-lanes-third : HostLanesThird
   -- request U2: "From a sequence number and samples, write the one line that the reader accepts with those fields"; "A K line can be written too"
   pub the-one-line : TheOneLine
-  -- request U2: "With buffers long enough, reading a written line returns its fields, and writing the fields of a read line returns its bytes", of any reader and writer that meet their contracts
+  -- request U2: "With buffers long enough, reading a written line returns its fields, and writing the fields of a read line returns its bytes", of any reader and writer that meet their contracts;
+  -- request U4: "The writer's round trip is then read with the number before it told, or none"
   pub round-trips : RoundTrips
-  -- request U2: "Replay stations need recorded samples put out as D lines": the program reads what is written, and its outputs are those of the samples
+  -- request U2: "Replay stations need recorded samples put out as D lines": the program reads the lines that are written, numbered by one as far as there are numbers, and its outputs are those of
+  -- the samples
   pub replay : Replay
-  -- the round trips of request U2 for the host, byte for byte
+  -- the round trips of requests U2 and U4 for the host, byte for byte
   pub host-round-trips : HostRoundTrips
   -- request U3: "Use an eight-row table in its place, by old top bit, carry and new top bit, with 0 in the two rows that never occur"; "Callers notice nothing"
   pub three-point-table : ThreePointTable
+  -- request U4: "The reader is told the last number accepted, or that there was none, and refuses a frame that doesn't follow it; with none, any number is accepted"; "No number follows FFFFFFFF
+  -- hexadecimal"; "15, sequence not the next; after 10 and before 11"
+  pub in-order : InOrder
+  -- request U4, "Relays now swap lines": over any input, the numbers of what is received rise by one, and the first line that does not follow is refused
+  pub received-in-order : ReceivedInOrder
+  -- request U4 for the host: one line, and over any reads that are lent the same 8 bytes
+  pub host-in-order : HostInOrder

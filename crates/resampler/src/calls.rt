@@ -151,7 +151,7 @@ pub extern "C" fn resampler_write_start(kernel: u32, word: u64, phase: u32, line
     write_start_line(kernel, word, phase, line)
 }
 
-// Reads the D line that the bytes begin with: its number and its count to `frame`, its samples to the first byte pairs of `samples`.
+// Reads the D line that the bytes begin with, told the last number by `frame`: its number and its count to `frame`, its samples to the first byte pairs of `samples`.
 #[no_mangle]
 pub extern "C" fn resampler_read_data(line: &[u8], frame: &mut [u8], samples: &mut [u8]) -> u32
     ensures { λ r. ⌜ readReply r (now (frame .exit)) (now (samples .exit)) ≡ hostReadData (now (line .entry)) (now (frame .entry)) (now (samples .entry)) ⌝ }

@@ -21,7 +21,7 @@ returns : tie.Need-returns
 unfolding dataLine
 returns c =
     let z = c .before .before .before in
-    c .refused .ensures ∙ ap dataAnswer (sym (front-refused _ _ (frameOf (z .before .before .args .space)) (lineDigits 68 _) (z .read-front .ensures) (c .before .if1 .taken)))
+    c .refused .ensures ∙ ap dataAnswer (sym (front-refused _ _ (frameOf (z .before .before .args .last) (z .before .before .args .space)) (lineDigits 68 _) (z .read-front .ensures) (c .before .if1 .taken)))
 
 sub-judge-digits : tie.Need-sub-judge-digits
 sub-judge-digits c = lent c .some
@@ -42,7 +42,7 @@ returns-2 : tie.Need-returns-2
 unfolding dataLine
 returns-2 c =
     let z = c .before .before .before .before in
-    c .judge-digits .ensures ∙ ap dataAnswer (sym (front-follows _ _ (frameOf (z .before .before .args .space)) (lineDigits 68 _) (z .read-front .ensures) (c .before .before .if1 .left)))
+    c .judge-digits .ensures ∙ ap dataAnswer (sym (front-follows _ _ (frameOf (z .before .before .args .last) (z .before .before .args .space)) (lineDigits 68 _) (z .read-front .ensures) (c .before .before .if1 .left)))
 
 pub judge-spec : {M : Type 1} → statement M
 judge-spec =

@@ -12,8 +12,8 @@ use Rattle.frames_spec.proofs.Frames.{refusal-is, Taken, taken}
 use Rattle.frames_read.proofs.data.read_data.Statement.{statement}
 use Rattle.frames_read.proofs.data.read_data.Tie as tie
 
-read : (c : tie.Then1) → let a = c .before .before .before .before .args in Taken (c .before .before .judge .result) (length (now (a .samples))) (now (a .line))
-read c = taken _ _ _ (c .before .before .judge .ensures) (c .if1 .taken)
+read : (c : tie.Then1) → let a = c .before .before .before .before .args in Taken (c .before .before .judge .result) (a .last) (length (now (a .samples))) (now (a .line))
+read c = taken _ _ _ _ (c .before .before .judge .ensures) (c .if1 .taken)
 
 judge-requires : tie.Need-judge-requires
 judge-requires c κs = search needs
@@ -51,7 +51,7 @@ returns c =
 returns-2 : tie.Need-returns-2
 returns-2 c =
     let a = c .before .before .before .before .args in
-    let r = dataLine (length (now (a .samples))) (now (a .line)) in
+    let r = dataLine (a .last) (length (now (a .samples))) (now (a .line)) in
     let t = refused-is r (λ e. c .if1 .left (refusal-is r _ (c .before .before .judge .ensures) ∙ e)) in
     record { answer = c .before .before .judge .ensures; buffer = ap (λ (r : Read Frame). filled r (now (a .samples))) (sym t) }
 

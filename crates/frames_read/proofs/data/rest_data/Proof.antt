@@ -12,8 +12,8 @@ use Rattle.frames_spec.proofs.Frames.{refusal-is, Taken, taken}
 use Rattle.frames_read.proofs.data.rest_data.Statement.{statement}
 use Rattle.frames_read.proofs.data.rest_data.Tie as tie
 
-read : (c : tie.Else1) → let a = c .before .before .before .before .args in Taken (c .before .before .judge .result) (length (now (a .samples))) (now (a .line))
-read c = taken _ _ _ (c .before .before .judge .ensures) (c .if1 .left)
+read : (c : tie.Else1) → let a = c .before .before .before .before .args in Taken (c .before .before .judge .result) (a .last) (length (now (a .samples))) (now (a .line))
+read c = taken _ _ _ _ (c .before .before .judge .ensures) (c .if1 .left)
 
 judge-requires : tie.Need-judge-requires
 judge-requires c κs = search needs
@@ -22,7 +22,7 @@ returns : tie.Need-returns
 returns c =
     let a = c .before .before .before .before .args in
     let bs = now (a .line) in
-    let r = dataLine (length (now (a .samples))) bs in
+    let r = dataLine (a .last) (length (now (a .samples))) bs in
     let t = rest-refused r bs (a .line .ptr .1) (λ e. c .if1 .taken (refusal-is r _ (c .before .before .judge .ensures) ∙ e)) in
     (t .0, (refl, t .1))
 
@@ -42,7 +42,7 @@ returns-2 c =
     let t = read (c .before .before) in
     let n = c .before .before .before .before .judge .result .count in
     let s : suc (lineEnd bs) ≡ 14 + n * 4 = omega (arith, t .count, t .line .size) in
-    let u : used (dataLine (length (now (a .samples))) bs) bs ≡ 14 + n * 4 = ap (λ (r : Read Frame). used r bs) (t .is) ∙ s in
+    let u : used (dataLine (a .last) (length (now (a .samples))) bs) bs ≡ 14 + n * 4 = ap (λ (r : Read Frame). used r bs) (t .is) ∙ s in
     rw u (c .tail .ensures)
 
 pub rest-data-spec : {M : Type 1} → statement M

@@ -10,7 +10,7 @@ use lib.ListN.{length, drop}
 use denote.Ref.{now}
 use Rattle.bytes_spec.specs.Bytes.{pairsOf}
 use Rattle.bytes_spec.specs.Overwritten.{over}
-use Rattle.host_spec.specs.HostLines.{dataFieldsLength, dataFields, readReply}
+use Rattle.host_spec.specs.HostLines.{dataFieldsLength, dataFields, toldBy, readReply}
 use Rattle.host_spec.proofs.HostLineLaws.{read-data-5, read-data-refused, read-data-12, read-data-done}
 use Rattle.host_lines.proofs.LineRead.{read-refused, Sampled, read-sampled}
 use Rattle.host_lines.proofs.SamplesMoved.{block-lent}
@@ -24,25 +24,32 @@ long c = omega (arith, c .if1 .left)
 -- the buffers that are lent, and the block that the line was read into
 module _ (c : tie.After-read-data) where
   abbrev begin : tie.Start
-  begin = c .before .before .before .before .before .before .before .before
+  begin = c .before .before .before .before .before .before .before .before .before .before
 
   abbrev line : List ℕ
   line = now (begin .args .line)
+
+  abbrev frame : List ℕ
+  frame = now (begin .args .frame)
 
   abbrev samples : List ℕ
   samples = now (begin .args .samples)
 
   abbrev left : List ℤ
-  left = c .read-data .last .1 .0 ++ drop (c .before .before .space-in .result) (c .before .before .before .samples-block .result)
+  left = c .read-data .last .1 .1 .0 ++ drop (c .before .before .space-in .result) (c .before .before .before .samples-block .result)
 
 -- a line that is not refused
-read : (c : tie.Else2) → let r = c .before .before .before in Sampled (line r) (length (samples r)) (r .read-data .result) (left r)
+read : (c : tie.Else2) → let r = c .before .before .before in Sampled (line r) (toldBy (frame r)) (length (samples r)) (r .read-data .result) (left r)
 read c =
     let r = c .before .before .before in
-    read-sampled _ _ _ _ (r .before .before .before .samples-block .ensures) (r .before .before .space-in .ensures) _ _ (r .read-data .ensures) (c .if2 .left)
+    let b = r .before .before .before in
+    read-sampled _ _ _ _ _ (b .samples-block .ensures) (r .before .before .space-in .ensures) _ _ (b .before .last-in .ensures) (r .read-data .ensures) (c .if2 .left)
 
 returns : tie.Need-returns
 returns c = sym (read-data-5 _ _ _ (λ e. omega (arith, e)))
+
+last-in-requires : tie.Need-last-in-requires
+last-in-requires c κs = long (c .before)
 
 samples-block-requires : tie.Need-samples-block-requires
 samples-block-requires c κs = search needs
@@ -62,21 +69,28 @@ read-data-requires c κs = search needs
 cast-result : tie.Need-cast-result
 cast-result c = search needs
 
+same-length : tie.Need-same-length
+same-length c = search needs
+
 returns-2 : tie.Need-returns-2
 returns-2 c =
     let r = c .before .before .before .before in
     let n = c .before .if2 .taken in
-    let e = read-refused _ _ _ _ (r .before .before .before .samples-block .ensures) (r .before .before .space-in .ensures) _ _ (r .read-data .ensures) n in
-    sym (read-data-refused _ _ _ (long (r .before .before .before .before)) (r .read-data .result .refusal) e n)
+    let b = r .before .before .before in
+    let e = read-refused _ _ _ _ _ (b .samples-block .ensures) (r .before .before .space-in .ensures) _ _ (b .before .last-in .ensures) (r .read-data .ensures) n in
+    sym (read-data-refused _ _ _ (long (b .before .before .before)) (r .read-data .result .refusal) e n)
 
 is-buffer-requires : tie.Need-is-buffer-requires
 is-buffer-requires c κs = search needs
+
+same-length-2 : tie.Need-same-length-2
+same-length-2 c = search needs
 
 returns-3 : tie.Need-returns-3
 returns-3 c =
     let z = c .before .before in
     let t = read z in
-    sym (read-data-12 _ _ _ (long (z .before .before .before .before .before .before .before)) (t .frame) (t .is) (sym (c .before .is-buffer .ensures) ∙ not-true _ (c .if3 .taken)))
+    sym (read-data-12 _ _ _ (long (z .before .before .before .before .before .before .before .before .before)) (t .frame) (t .is) (sym (c .before .is-buffer .ensures) ∙ not-true _ (c .if3 .taken)))
 
 put-data-fields-requires : tie.Need-put-data-fields-requires
 put-data-fields-requires c κs = search needs
@@ -90,11 +104,11 @@ slice-aggregate-put-samples c = sym (read (c .before .before .before .before .be
 put-samples-requires : tie.Need-put-samples-requires
 put-samples-requires c κs = let t = read (c .before .before .before .before .before .before .before .before) in omega (arith, t .count, t .many)
 
-same-length : tie.Need-same-length
-same-length c = search needs
+same-length-3 : tie.Need-same-length-3
+same-length-3 c = search needs
 
-same-length-2 : tie.Need-same-length-2
-same-length-2 c = search needs
+same-length-4 : tie.Need-same-length-4
+same-length-4 c = search needs
 
 returns-4 : tie.Need-returns-4
 returns-4 c =
@@ -107,26 +121,29 @@ returns-4 c =
     let fields = q .put-data-fields .ensures ∙ ap dataFields (t .answer) in
     let pairs = p .put-samples .ensures ∙ ap (λ xs. over (pairsOf xs) (samples r)) (t .samples) in
     (λ i. readReply 0 (fields i) (pairs i))
-    ∙ sym (read-data-done _ _ _ (long (r .before .before .before .before)) (t .frame) (t .is) (sym (y .before .is-buffer .ensures) ∙ not-false _ (y .if3 .left)))
+    ∙ sym (read-data-done _ _ _ (long (r .before .before .before .before .before .before)) (t .frame) (t .is) (sym (y .before .is-buffer .ensures) ∙ not-false _ (y .if3 .left)))
 
 pub read-data-line-spec : {M : Type 1} → statement M
 read-data-line-spec =
     tie.close
     (tie.spec
     returns
+    last-in-requires
     samples-block-requires
     space-in-requires
     array-borrow-prefix-block
     slice-aggregate-read-data
     read-data-requires
     cast-result
+    same-length
     returns-2
     is-buffer-requires
+    same-length-2
     returns-3
     put-data-fields-requires
     array-share-prefix-block
     slice-aggregate-put-samples
     put-samples-requires
-    same-length
-    same-length-2
+    same-length-3
+    same-length-4
     returns-4)

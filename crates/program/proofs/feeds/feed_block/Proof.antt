@@ -11,6 +11,7 @@ use denote.Ref.{now}
 use Rattle.converter_spec.specs.Feeding.{fedOf, outputsOf}
 use Rattle.program_spec.specs.Program.{outputLines}
 use Rattle.program_spec.specs.Turn.{spaceIn}
+use Rattle.program.specs.Block.{blockSize}
 use Rattle.program.proofs.Blocks.{fed-answered, fed-written, fed-outputs}
 use Rattle.program.proofs.feeds.feed_block.Statement.{statement}
 use Rattle.program.proofs.feeds.feed_block.Tie as tie
@@ -34,7 +35,7 @@ module _ (c : tie.After-feed) where
   samples = now (start .args .samples)
 
   abbrev space : ℕ
-  space = min (spaceIn (length text)) 512
+  space = min (spaceIn (length text)) blockSize
 
   abbrev ys : List ℤ
   ys = outputsOf (start .args .state) samples space

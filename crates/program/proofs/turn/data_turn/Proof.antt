@@ -6,6 +6,7 @@ use Prim.Native.Nat.{ℕ}
 use native.Mathlib.Omega.{arith}
 use lib.ListN.{length, length-take}
 use denote.Ref.{now}
+use Rattle.frames_spec.specs.declared.answers.Last.{Last}
 use Rattle.frames_spec.specs.Frame.{DataRight}
 use Rattle.frames_spec.proofs.Frames.{data-refused, data-most}
 use Rattle.program.proofs.Turning.{Sampled, data-answered, data-sampled}
@@ -16,26 +17,29 @@ module _ (c : tie.After-read-data) where
   abbrev bytes : List ℕ
   bytes = now (c .before .before .before .before .before .args .bytes)
 
-  right : DataRight bytes (c .before .before .samples-block .result) (c .read-data .result) (c .read-data .last .1 .0)
+  abbrev told : Last
+  told = c .before .before .before .before .before .args .s .last
+
+  right : DataRight bytes told (c .before .before .samples-block .result) (c .read-data .result) (c .read-data .last .1 .1 .0)
   right = c .read-data .ensures
 
   long : 64 ≡ length (c .before .before .samples-block .result)
   long = c .before .before .samples-block .ensures
 
 -- a line that is not refused
-taken : (c : tie.Else1) → Sampled (bytes (c .before .before .before)) (c .before .before .before .read-data .result) (c .before .before .before .read-data .last .1 .0)
+taken : (c : tie.Else1) → Sampled (bytes (c .before .before .before)) (told (c .before .before .before)) (c .before .before .before .read-data .result) (c .before .before .before .read-data .last .1 .1 .0)
 taken c = let z = c .before .before .before in data-sampled (bytes z) (right z) (long z) (c .if1 .left)
 
 returns : tie.Need-returns
 returns c =
     let z = c .before .before .before .before .before .before .before in
-    rw (data-refused _ 64 (bytes z) (data-answered (bytes z) (right z) (long z)) (c .before .before .before .before .if1 .taken)) (c .before .before .refuses .ensures)
+    rw (data-refused _ (told z) 64 (bytes z) (data-answered (bytes z) (right z) (long z)) (c .before .before .before .before .if1 .taken)) (c .before .before .refuses .ensures)
 
 returns-2 : tie.Need-returns-2
-returns-2 c = let t = taken (c .before .before .before .before .before) in rw (t .line, ← t .size, ← t .samples) (c .before .before .feed-turn .ensures)
+returns-2 c = let t = taken (c .before .before .before .before .before) in rw (t .line, ← t .number, ← t .size, ← t .samples) (c .before .before .feed-turn .ensures)
 
 refuses-requires : tie.Need-refuses-requires
-refuses-requires c κs = let z = c .before .before .before .before in (omega (arith, data-most _ 64 (bytes z) (data-answered (bytes z) (right z) (long z))), search needs)
+refuses-requires c κs = let z = c .before .before .before .before in (omega (arith, data-most _ (told z) 64 (bytes z) (data-answered (bytes z) (right z) (long z))), search needs)
 
 mul-feed-turn : tie.Need-mul-feed-turn
 mul-feed-turn c = record { fits = omega (arith, taken c .few) }
@@ -44,7 +48,7 @@ add-feed-turn : tie.Need-add-feed-turn
 add-feed-turn c = record { fits = omega (arith, taken c .few) }
 
 array-share-prefix-samples : tie.Need-array-share-prefix-samples
-array-share-prefix-samples c = let z = c .before .before .before .read-data in omega (arith, taken c .count, length-take (z .result .count) (z .last .1 .0))
+array-share-prefix-samples c = let z = c .before .before .before .read-data in omega (arith, taken c .count, length-take (z .result .count) (z .last .1 .1 .0))
 
 slice-aggregate-feed-turn : tie.Need-slice-aggregate-feed-turn
 slice-aggregate-feed-turn c = sym (taken (c .before) .count)

@@ -4,6 +4,7 @@ use mathlib.Core.Path.{_≡_, sym, ap, _∙_}
 use mathlib.Core.Bool.{cond, true}
 use mathlib.Core.Logic.{⊎-elim}
 use Prim.Native.Nat.{_+_, _*_, _%_, _^_}
+use Rattle.frames_spec.specs.declared.answers.Last.the-variants as last
 use Rattle.program_spec.specs.declared.turn.Next.the-variants as next
 use Rattle.program_spec.specs.Turn.{isHungry}
 use Rattle.program_spec.proofs.LinesWritten.{outputs-length}
@@ -12,8 +13,8 @@ use Rattle.program.proofs.turn.fed_turn.Tie as tie
 
 -- by how the feed ended
 ending : (c : tie.At-match-came) → let a = c .before .before .args in let e = isHungry (a .fed .counts .end) in
-    (c .match .used ≡ cond e (a .size) 0) × (c .match .skip ≡ cond e 0 (a .s .skip + a .fed .counts .taken))
-ending c = ⊎-elim (λ t. rw (t .1 .given .1) (t .2, t .3)) (λ t. rw (t .1 .given .1) (t .4, t .5)) (c .match .came)
+    (c .match .last ≡ cond e (last.Number (a .number)) (a .s .last)) × (c .match .used ≡ cond e (a .size) 0) × (c .match .skip ≡ cond e 0 (a .s .skip + a .fed .counts .taken))
+ending c = ⊎-elim (λ t. rw (t .1 .given .1) (t .2, t .3, t .4)) (λ t. rw (t .1 .given .1) (t .4, t .5, t .6)) (c .match .came)
 
 returns : tie.Need-returns
 returns c ys l =
@@ -23,11 +24,12 @@ returns c ys l =
       stream = record {
         state = z .before .before .before .before .args .fed .state;
         started = true;
-        skip = e .1 i;
+        last = e .0 i;
+        skip = e .2 i;
         outputs = c .before .wrapping-add-u64 .ensures i;
         clips = (c .wrapping-add-u642 .ensures ∙ ap (λ n. (z .before .before .before .before .args .s .clips + n) % 2 ^ 64) (z .total-clips .ensures)) i;
       };
-      used = e .0 i;
+      used = e .1 i;
       written = (ap (λ n. n * 5) (sym l) ∙ sym (outputs-length ys)) i;
       next = next.Again;
     }
@@ -50,8 +52,8 @@ wrapping-add-u64-requires c κs = search needs
 wrapping-add-u64-requires-2 : tie.Need-wrapping-add-u64-requires-2
 wrapping-add-u64-requires-2 c κs = search needs
 
-mul-t16 : tie.Need-mul-t16
-mul-t16 c = search needs
+mul-t18 : tie.Need-mul-t18
+mul-t18 c = search needs
 
 pub fed-turn-spec : {M : Type 1} → statement M
-fed-turn-spec = tie.close (tie.spec enum-told enum-told-2 add-skip total-clips-requires wrapping-add-u64-requires wrapping-add-u64-requires-2 mul-t16 returns)
+fed-turn-spec = tie.close (tie.spec enum-told enum-told-2 add-skip total-clips-requires wrapping-add-u64-requires wrapping-add-u64-requires-2 mul-t18 returns)

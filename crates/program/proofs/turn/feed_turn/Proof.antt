@@ -44,12 +44,12 @@ module _ (c : tie.After-feed-text) where
 returns : tie.Need-returns
 returns c =
     let z = c .before .before .before .before .before .before .before .before in
-    feed-refuses (s z) (xs z) (old z) (right z) (start z .args .size) (c .before .before .before .before .if1 .taken) (c .before .before .put-refusal .ensures)
+    feed-refuses (s z) (xs z) (old z) (right z) (start z .args .number) (start z .args .size) (c .before .before .before .before .if1 .taken) (c .before .before .put-refusal .ensures)
 
 returns-2 : tie.Need-returns-2
 returns-2 c =
     let z = c .before .before .before .before .before in
-    feed-goes (s z) (xs z) (old z) (right z) (start z .args .size) (c .before .if1 .left) (c .fed-turn .ensures)
+    feed-goes (s z) (xs z) (old z) (right z) (start z .args .number) (start z .args .size) (c .before .if1 .left) (c .fed-turn .ensures)
 
 put-refusal-requires : tie.Need-put-refusal-requires
 put-refusal-requires c κs = let z = c .before .before .before .before .before in (omega (arith, feed-sizes (s z) (xs z) (old z) (right z)), search needs)

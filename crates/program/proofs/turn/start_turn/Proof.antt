@@ -9,6 +9,7 @@ use denote.Ref.{now}
 use Rattle.oscillator_spec.specs.declared.settings.Setting.the-variants as setting
 use Rattle.converter_state.specs.Start.{started}
 use Rattle.frames_spec.specs.declared.answers.StartLine.{StartLine}
+use Rattle.frames_spec.specs.declared.answers.Last.the-variants as last
 use Rattle.program_spec.specs.declared.turn.Next.the-variants as next
 use Rattle.frames_spec.proofs.Starts.{start-refused, start-most}
 use Rattle.program.proofs.Turning.{start-begun}
@@ -30,7 +31,7 @@ returns-2 c =
     let e = c .before .start .ensures ∙ ap (λ (k : StartLine). started (k .kernel) (setting.Word (k .word)) (k .phase)) (k .answer) in
     rw (k .line)
     (record {
-      answer = λ i. record { stream = record { state = e i .state; started = true; skip = 0; outputs = 0; clips = 0 }; used = k .size i; written = 0; next = next.Again };
+      answer = λ i. record { stream = record { state = e i .state; started = true; last = last.None; skip = 0; outputs = 0; clips = 0 }; used = k .size i; written = 0; next = next.Again };
       buffer = refl;
     })
 
