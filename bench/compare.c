@@ -78,7 +78,8 @@ static int is_same(const uint8_t *image, size_t bytes, const uint8_t *of_new)
         uint8_t *one = images + lane * SINGLE;
         memcpy(one, of_new, SINGLE);
         memcpy(one + RESAMPLER_AT_WINDOW, of_new + resampler_lane_window(lane), 8);
-        memcpy(one + RESAMPLER_AT_CLIPS, of_new + RESAMPLER_AT_LANE_CLIPS + 4 * lane, 4);
+        uint32_t clips = resampler_lane_clips(of_new, lane);
+        memcpy(one + RESAMPLER_AT_CLIPS, &clips, sizeof clips);
     }
     return memcmp(image, bytes == IMAGE ? images : of_new, bytes) == 0;
 }

@@ -161,7 +161,7 @@ int main(void)
             put(outputs, fed.written);
             taken += fed.taken;
             made += fed.written;
-            clips += fed.clips;
+            clips += plain_sum(fed.clips);
             full = fed.full;
         }
     }

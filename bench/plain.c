@@ -24,17 +24,19 @@ struct progress {
     size_t at;
     uint32_t reg;
     size_t written;
-    size_t clips;
+    uint64_t clips;
 };
 
-static int16_t hold(int64_t z, size_t *clips)
+/* With a counter for each side kernel 3 took 11 in a hundred longer, and an empty call, where the two lie side by side
+   in a struct, 4 ns: gcc loads both at once, right after they were stored one by one. */
+static int16_t hold(int64_t z, uint64_t *clips)
 {
     if (z > 32767) {
         ++*clips;
         return 32767;
     }
     if (z < -32768) {
-        ++*clips;
+        *clips += (uint64_t)1 << 32;
         return -32768;
     }
     return (int16_t)z;
@@ -71,7 +73,8 @@ static void run_1(struct progress *p, uint64_t word, const uint8_t *samples, siz
                   size_t space)
 {
     uint32_t reg = p->reg;
-    size_t at = p->at, written = p->written, clips = p->clips;
+    size_t at = p->at, written = p->written;
+    uint64_t clips = p->clips;
     while (at + 4 <= count && written < space) {
         const uint8_t *x = samples + 2 * at;
         int64_t m = (int32_t)reg >> 18;
@@ -96,7 +99,8 @@ static void run_2(struct progress *p, uint64_t word, const uint8_t *samples, siz
                   size_t space)
 {
     uint32_t reg = p->reg;
-    size_t at = p->at, written = p->written, clips = p->clips;
+    size_t at = p->at, written = p->written;
+    uint64_t clips = p->clips;
     while (at + 4 <= count && written < space) {
         const uint8_t *x = samples + 2 * at;
         int64_t m = reg >> 18;
@@ -121,7 +125,8 @@ static void run_3(struct progress *p, uint64_t word, const uint8_t *samples, siz
                   size_t space)
 {
     uint32_t reg = p->reg;
-    size_t at = p->at, written = p->written, clips = p->clips;
+    size_t at = p->at, written = p->written;
+    uint64_t clips = p->clips;
     while (at + 4 <= count && written < space) {
         const uint8_t *x = samples + 2 * at;
         int64_t m = reg >> 18;
@@ -218,7 +223,7 @@ static int get_image(struct plain_state *s, const uint8_t *image, size_t image_l
 
 static void put_image(uint8_t *image, const struct plain_state *s, struct plain_fed fed)
 {
-    uint32_t counts[4] = {(uint32_t)fed.taken, (uint32_t)fed.written, (uint32_t)fed.clips, (uint32_t)fed.full};
+    uint32_t counts[4] = {(uint32_t)fed.taken, (uint32_t)fed.written, plain_sum(fed.clips), (uint32_t)fed.full};
     image[RESAMPLER_AT_NEEDED] = (uint8_t)s->needed;
     memcpy(image + RESAMPLER_AT_REGISTER, &s->reg, sizeof s->reg);
     memcpy(image + RESAMPLER_AT_WINDOW, s->window, sizeof s->window);
@@ -247,7 +252,6 @@ uint32_t plain_host_feed_lanes(uint8_t *image, size_t image_length, uint32_t lan
                                size_t input_length, uint8_t *output, size_t output_length)
 {
     struct plain_state shared;
-    uint32_t clips[RESAMPLER_MOST_LANES] = {0};
     if (!get_image(&shared, image, image_length, RESAMPLER_LANES_BYTES))
         return RESAMPLER_BAD_IMAGE;
     if (!is_buffer(input_length) || !is_buffer(output_length))
@@ -255,6 +259,7 @@ uint32_t plain_host_feed_lanes(uint8_t *image, size_t image_length, uint32_t lan
     if (lanes < 1 || lanes > RESAMPLER_MOST_LANES || input_length / 2 % lanes != 0 || output_length / 2 % lanes != 0)
         return RESAMPLER_BAD_LANES;
     size_t input_part = input_length / lanes, output_part = output_length / lanes;
+    uint8_t *clips = image + RESAMPLER_AT_LANE_HIGH;
     for (size_t lane = 0; lane < lanes; lane++) {
         struct plain_state s = shared;
         uint8_t *window = image + resampler_lane_window(lane);
@@ -264,8 +269,8 @@ uint32_t plain_host_feed_lanes(uint8_t *image, size_t image_length, uint32_t lan
         if (lane == 0)
             put_image(image, &s, fed);
         memcpy(window, s.window, sizeof s.window);
-        clips[lane] = (uint32_t)fed.clips;
+        memcpy(clips + lane * RESAMPLER_LANE_CLIPS_BYTES, &fed.clips, sizeof fed.clips);
     }
-    memcpy(image + RESAMPLER_AT_LANE_CLIPS, clips, sizeof clips);
+    memset(clips + lanes * RESAMPLER_LANE_CLIPS_BYTES, 0, (RESAMPLER_MOST_LANES - lanes) * RESAMPLER_LANE_CLIPS_BYTES);
     return RESAMPLER_ACCEPTED;
 }

@@ -17,12 +17,19 @@ struct plain_state {
     int16_t window[4];
 };
 
+/* Clips of both sides are counted in one number: the high ones in its low 32 bits, the low ones in the others, as an
+   image of lanes has them. This is their sum. */
+static inline uint32_t plain_sum(uint64_t clips)
+{
+    return (uint32_t)(clips + (clips >> 32));
+}
+
 /* What a feed did. `full` tells that it stopped because the output space was all written, and not because
    the samples were. */
 struct plain_fed {
     size_t taken;
     size_t written;
-    size_t clips;
+    uint64_t clips; /* of both sides */
     int full;
 };
 

@@ -5,7 +5,7 @@
    buffer and writes outputs to another. A retune sets another ratio of the rates. The host may copy an image,
    store it, and go on from it later, in another process or on another machine.
 
-   Up to sixteen signals on one clock, called lanes, can have one image, of 224 bytes, and one feed.
+   Up to sixteen signals on one clock, called lanes, can have one image, of 288 bytes, and one feed.
 
    On their way samples stand in frame lines, which are text: a K line has kernel, word and phase, a D line a number
    and up to 64 samples. Two calls write such lines, and two read them.
@@ -44,8 +44,9 @@ extern "C" {
 /* Kernels. The basepoint b of an output is the sample at or before its position; for the three-point kernel it is
    the nearest one, halves upward. The kernel is evaluated at u, the fraction from b rounded down to a multiple of
    2^-14; for the three-point kernel it is below zero where the position lies before b. The value is kept exact,
-   rounded once, halves upward, and held to -32768..32767. A held output is a clip. Samples before the first are
-   zero. R is how far past b a kernel reads. With xm, x0, x1, x2 for the samples b - 1 to b + 2 the values are
+   rounded once, halves upward, and held to -32768..32767. An output that had to be held is a clip, as below. Samples
+   before the first are zero. R is how far past b a kernel reads. With xm, x0, x1, x2 for the samples b - 1 to b + 2 the
+   values are
     0   x0 + u (x1 - x0)
     1   x0 + u (x1 - xm)/2 + u^2 (x1 - 2 x0 + xm)/2
     2   x0 + u (-x2 + 3 x1 - x0 - xm)/2 + u^2 (x2 - x1 - x0 + xm)/2      (alpha 1/2)
@@ -54,6 +55,14 @@ extern "C" {
 #define RESAMPLER_THREE_POINT 1 /* R = 1; samples b - 1 to b + 1 */
 #define RESAMPLER_PARABOLIC 2   /* R = 2; samples b - 1 to b + 2 */
 #define RESAMPLER_CUBIC 3       /* R = 2; samples b - 1 to b + 2 */
+
+/* Clips. An output whose rounded value lies outside -32768..32767 is held, and is a clip: high exactly where that value
+   is above 32767, low exactly where it is below -32768. So 32767.5, which rounds to 32768, is high, and -32768.5, which
+   rounds to -32768, is neither; an output that is 32767 or -32768 without having been held is neither too. The linear
+   kernel makes no clips.
+
+   A feed of lanes counts the high and the low clips of each lane, a single feed both together. A host that wants the
+   two counts of one signal feeds it as one lane. */
 
 /* A word is input rate / output rate times 2^32: the way from one output to the next, in 2^-32 of a sample. It
    is 1 to 2^34, so that there are at most 2^32 outputs to a sample, and at least one output to four samples. */
@@ -77,15 +86,26 @@ extern "C" {
 #define RESAMPLER_AT_WINDOW 16  /* 4 byte pairs: the newest samples taken, oldest first; zeros at the start */
 #define RESAMPLER_AT_TAKEN 24   /* 4 bytes: samples taken */
 #define RESAMPLER_AT_WRITTEN 28 /* 4 bytes: outputs written */
-#define RESAMPLER_AT_CLIPS 32   /* 4 bytes: clips among them */
+#define RESAMPLER_AT_CLIPS 32   /* 4 bytes: clips among them, high and low together */
 #define RESAMPLER_AT_END 36     /* 4 bytes: HUNGRY or FULL */
 
-/* The image of lanes begins with an image as above: what the lanes share, with the window and the clips of lane 0.
-   Samples taken, outputs written and the end are those of every lane that was fed. The clip counts too are those of the
-   last accepted feed, 0 for a lane that it left out; on entry to a call they may be anything. */
-#define RESAMPLER_AT_LANE_WINDOWS RESAMPLER_IMAGE_BYTES           /* 15 times 4 byte pairs: windows of lanes 1 to 15 */
-#define RESAMPLER_AT_LANE_CLIPS (RESAMPLER_AT_LANE_WINDOWS + 120) /* 16 times 4 bytes: clips of lanes 0 to 15 */
-#define RESAMPLER_LANES_BYTES (RESAMPLER_AT_LANE_CLIPS + 64)      /* 224, the whole image of lanes */
+/* The image of lanes begins with an image as above: what the lanes share, with the window and the clips of lane 0, high
+   and low together. Samples taken, outputs written and the end are those of every lane that was fed. Bytes 160 to 287
+   have the two counts of each lane. They too are those of the last accepted feed, which writes them all, 0 for a lane
+   that it left out; on entry to a call they may be anything. One call writes at most 32,768 outputs in all lanes
+   together, so 4 bytes hold a count.
+
+   In an older library, whose header has RESAMPLER_AT_LANE_CLIPS and no RESAMPLER_AT_LANE_HIGH, the image of lanes had
+   224 bytes, with one count of clips for each lane. Such an image is refused with 5. To go on from one, start an image
+   of 288 bytes and copy the first 160 bytes of the old one to its front; what is left out are only the counts:
+       memcpy(image, old, RESAMPLER_AT_LANE_HIGH)
+   An image of one converter is as it was. To go on from one with both counts, start an image of lanes, copy the 40 bytes
+   to its front and feed one lane: bytes 0 to 39 and the outputs are then those of single feeds. */
+#define RESAMPLER_AT_LANE_WINDOWS RESAMPLER_IMAGE_BYTES          /* 15 times 4 byte pairs: windows of lanes 1 to 15 */
+#define RESAMPLER_AT_LANE_HIGH (RESAMPLER_AT_LANE_WINDOWS + 120) /* 160; 4 bytes: high clips of lane 0 */
+#define RESAMPLER_AT_LANE_LOW (RESAMPLER_AT_LANE_HIGH + 4)       /* 164; 4 bytes: low clips of lane 0 */
+#define RESAMPLER_LANE_CLIPS_BYTES 8                             /* lane i has its two counts 8 i bytes further on */
+#define RESAMPLER_LANES_BYTES (RESAMPLER_AT_LANE_HIGH + 128)     /* 288, the whole image of lanes */
 
 #define RESAMPLER_HUNGRY 0
 #define RESAMPLER_FULL 1
@@ -119,7 +139,7 @@ extern "C" {
     3   output rate 0
     4   word 0 or above 2^34, after rounding
     5   state with kernel above 3, word outside 1..2^34 or needed count above 4; image not 40 bytes, for a start
-        or feed of lanes not 224, or bytes 2, 3 not zero; `frame` not 8 bytes, for a K line not 16
+        or feed of lanes not 288, or bytes 2, 3 not zero; `frame` not 8 bytes, for a K line not 16
     6   no byte 10 in the first 270 bytes, or in those that were lent
     7   first letter not the one called for, or line empty
     8   another character than 0-9, A-F after the letter
@@ -163,7 +183,7 @@ uint32_t resampler_start_ratio(uint8_t *image, size_t image_length, uint32_t ker
 uint32_t resampler_start_rates(uint8_t *image, size_t image_length, uint32_t kernel, uint32_t fin, uint32_t fout,
                                uint32_t phase);
 
-/* Starts of lanes. They are as the starts above, and so are the refusals, but for an image of 224 bytes: all windows
+/* Starts of lanes. They are as the starts above, and so are the refusals, but for an image of 288 bytes: all windows
    are zeros, and all counts. */
 uint32_t resampler_start_lanes_word(uint8_t *image, size_t image_length, uint32_t kernel, uint64_t word,
                                     uint32_t phase);
@@ -210,8 +230,8 @@ uint32_t resampler_feed(uint8_t *image, size_t image_length, const uint8_t *inpu
    taken lie apart, at the end of each lane's part; the host lays them one after another for the next call.
 
    An accepted feed writes the whole image anew but for the windows of the lanes that it leaves out, from `lanes` on.
-   These keep their bytes, and their clip counts become 0. Calls may differ in their lane counts, but the register and
-   the needed count move on for every lane. So a lane that was left out has a window from another time, and what it
+   These keep their bytes, and their counts of clips become 0. Calls may differ in their lane counts, but the register
+   and the needed count move on for every lane. So a lane that was left out has a window from another time, and what it
    gives when it is fed again is no run of document 01.
 
    Refusals, in this order: 5, for any of its reasons; 12, if the length of the whole input or of the whole output is
@@ -286,17 +306,26 @@ static inline uint32_t resampler_number(const uint8_t *at)
     return at[0] | (uint32_t)at[1] << 8 | (uint32_t)at[2] << 16 | (uint32_t)at[3] << 24;
 }
 
-/* What the last accepted feed did. Samples and outputs are counted, not bytes. Of an image of lanes they are those of
-   each lane, and the clips are those of lane 0. */
+/* What the last accepted feed did. Samples and outputs are counted, not bytes. Clips are the sum of both sides, high
+   and low. Of an image of lanes samples and outputs are those of each lane, and the clips are those of lane 0. */
 static inline uint32_t resampler_taken(const uint8_t *image) { return resampler_number(image + RESAMPLER_AT_TAKEN); }
 static inline uint32_t resampler_written(const uint8_t *image) { return resampler_number(image + RESAMPLER_AT_WRITTEN); }
 static inline uint32_t resampler_clips(const uint8_t *image) { return resampler_number(image + RESAMPLER_AT_CLIPS); }
 static inline uint32_t resampler_end(const uint8_t *image) { return resampler_number(image + RESAMPLER_AT_END); }
 
-/* The clips of a lane, 0 to 15, in the last accepted feed of lanes, and where its window lies in an image of lanes. */
+/* The clips of a lane, 0 to 15, in the last accepted feed of lanes: the high ones, the low ones, and their sum. Then
+   where its window lies in an image of lanes. */
+static inline uint32_t resampler_lane_high(const uint8_t *image, size_t lane)
+{
+    return resampler_number(image + RESAMPLER_AT_LANE_HIGH + RESAMPLER_LANE_CLIPS_BYTES * lane);
+}
+static inline uint32_t resampler_lane_low(const uint8_t *image, size_t lane)
+{
+    return resampler_number(image + RESAMPLER_AT_LANE_LOW + RESAMPLER_LANE_CLIPS_BYTES * lane);
+}
 static inline uint32_t resampler_lane_clips(const uint8_t *image, size_t lane)
 {
-    return resampler_number(image + RESAMPLER_AT_LANE_CLIPS + 4 * lane);
+    return resampler_lane_high(image, lane) + resampler_lane_low(image, lane);
 }
 static inline size_t resampler_lane_window(size_t lane)
 {

@@ -37,8 +37,10 @@ uint32_t resampler_read_start(const uint8_t *, size_t, uint8_t *, size_t);
 #error "a call lacks its macro"
 #endif
 
-/* The image of lanes: a window of 8 bytes for each lane after lane 0, and a clip count of 4 for each. */
-#if RESAMPLER_LANES_BYTES != RESAMPLER_IMAGE_BYTES + 15 * 8 + 16 * 4 || RESAMPLER_MOST_LANES != 16
+/* The image of lanes: a window of 8 bytes for each lane after lane 0, and for each lane a count of high and one of low
+   clips, 4 bytes each. */
+#if RESAMPLER_LANES_BYTES != RESAMPLER_IMAGE_BYTES + 15 * 8 + 16 * (4 + 4) || RESAMPLER_MOST_LANES != 16 || \
+    RESAMPLER_AT_LANE_HIGH != 160 || RESAMPLER_AT_LANE_LOW != 164 || RESAMPLER_LANE_CLIPS_BYTES != 8
 #error "another image of lanes"
 #endif
 
@@ -101,34 +103,96 @@ static void fields(void)
     check("full", resampler_end(image) == RESAMPLER_FULL && resampler_written(image) == 1);
 }
 
-/* The fields of an image of lanes. The even lanes have the samples above, and the odd ones half of them, without a
-   clip; the last sample is the number of the lane. Then lane 0 is fed alone, and all others are left out. */
+/* The fields of an image of lanes. The lanes have four kinds of samples in turn, which clip on both sides, not at all,
+   on the low side and on the high side; the last sample is the number of the lane. What the counts of clips hold on
+   entry does not matter. Then lane 0 is fed alone, and all others are left out. */
 static void lanes(void)
 {
-    static const int16_t values[] = {-32768, 32767, 32767, -32768};
-    enum { BEFORE = sizeof values / sizeof *values, EACH = BEFORE + 1, LANES = RESAMPLER_MOST_LANES };
+    static const int16_t values[4][4] = {{32767, 32767, -32768, -32768},
+                                         {-16384, 16383, 16383, -16384},
+                                         {32767, -32768, -32768, 32767},
+                                         {-32768, 32767, 32767, -32768}};
+    static const uint32_t high[4] = {2, 0, 0, 1}, low[4] = {1, 0, 1, 0};
+    enum { BEFORE = 4, EACH = BEFORE + 1, LANES = RESAMPLER_MOST_LANES, SIDES = RESAMPLER_AT_LANE_HIGH };
     uint8_t image[RESAMPLER_LANES_BYTES], input[LANES * EACH * RESAMPLER_SAMPLE_BYTES], output[LANES * 20];
     for (int i = 0; i < LANES * EACH; i++) {
-        int lane = i / EACH, value = i % EACH < BEFORE ? values[i % EACH] / (1 + lane % 2) : lane;
+        int lane = i / EACH, value = i % EACH < BEFORE ? values[lane % 4][i % EACH] : lane;
         resampler_put_sample(input, (size_t)i, (int16_t)value);
     }
+    memset(image, 0xEE, sizeof image);
     check("start of lanes", resampler_start_lanes_ratio(image, sizeof image, RESAMPLER_CUBIC, 0.75, 0x12345678) == 0);
     check("zeros of lanes", number(image + RESAMPLER_AT_WINDOW, 8) == 0 && number(image + sizeof image - 8, 8) == 0);
+    memset(image + SIDES, 0xEE, sizeof image - SIDES);
     check("feed of lanes",
           resampler_feed_lanes(image, sizeof image, LANES, input, sizeof input, output, sizeof output) == 0);
     check("taken and written", resampler_taken(image) == EACH && resampler_written(image) == 4);
-    check("clips of lane 0", resampler_clips(image) == 1);
+    check("clips of lane 0, both sides", resampler_clips(image) == 3);
     for (size_t i = 0; i < LANES; i++) {
-        check("clips of a lane", resampler_lane_clips(image, i) == 1 - i % 2);
+        check("high clips of a lane", resampler_lane_high(image, i) == high[i % 4]);
+        check("low clips of a lane", resampler_lane_low(image, i) == low[i % 4]);
+        check("clips of a lane", resampler_lane_clips(image, i) == high[i % 4] + low[i % 4]);
+        check("their places", image[SIDES + 8 * i] == high[i % 4] && image[SIDES + 8 * i + 4] == low[i % 4]);
         check("window of a lane", resampler_sample(image + resampler_lane_window(i), RESAMPLER_WINDOW - 1) == (int)i);
     }
     check("retune of lanes", resampler_retune_word(image, RESAMPLER_IMAGE_BYTES, 1) == 0);
     check("feed of one lane", resampler_feed_lanes(image, sizeof image, 1, input, 2, output, 2) == 0);
     check("full", resampler_end(image) == RESAMPLER_FULL && resampler_taken(image) == 1);
-    check("window of lane 0", resampler_sample(image + resampler_lane_window(0), RESAMPLER_WINDOW - 1) == values[0]);
+    check("window of lane 0", resampler_sample(image + resampler_lane_window(0), RESAMPLER_WINDOW - 1) == 32767);
     for (size_t i = 1; i < LANES; i++) {
-        check("clips of a lane left out", resampler_lane_clips(image, i) == 0);
+        check("clips of a lane left out", resampler_lane_high(image, i) == 0 && resampler_lane_low(image, i) == 0);
         check("window left out", resampler_sample(image + resampler_lane_window(i), RESAMPLER_WINDOW - 1) == (int)i);
+    }
+}
+
+/* Values at the edges: 32767.5 rounds to 32768 and is high, 32767.375 to 32767 and is neither; -32768.5 rounds to
+   -32768 and is neither, -32768.625 to -32769 and is low. The outputs do not tell them apart. Each is the three-point
+   kernel at u = -1/2, (3 xm + 6 x0 - x1) / 8. */
+static void sides(void)
+{
+    static const int16_t values[] = {32767,  32767,  32763,  32767,  32767,  32764,
+                                     -32768, -32768, -32764, -32768, -32768, -32763};
+    static const uint32_t high[] = {1, 0, 0, 0}, low[] = {0, 0, 0, 1};
+    enum { LANES = 4 };
+    uint8_t image[RESAMPLER_LANES_BYTES], input[sizeof values], output[LANES * RESAMPLER_SAMPLE_BYTES];
+    for (size_t i = 0; i < sizeof values / sizeof *values; i++)
+        resampler_put_sample(input, i, values[i]);
+    check("start at one half",
+          resampler_start_lanes_rates(image, sizeof image, RESAMPLER_THREE_POINT, 1, 1, 0x80000000) == 0);
+    check("feed at the edges",
+          resampler_feed_lanes(image, sizeof image, LANES, input, sizeof input, output, sizeof output) == 0);
+    check("one output a lane", resampler_written(image) == 1 && resampler_clips(image) == 1);
+    for (size_t i = 0; i < LANES; i++) {
+        check("output at the edge", resampler_sample(output, i) == (i < 2 ? 32767 : -32768));
+        check("high at the edge", resampler_lane_high(image, i) == high[i]);
+        check("low at the edge", resampler_lane_low(image, i) == low[i]);
+    }
+}
+
+/* One signal as one lane has, byte for byte, the image of a single feed, and its sides behind that. An image with the
+   first 160 bytes of another, as they are carried over from an earlier version, goes on as that one does. */
+static void one_lane(void)
+{
+    static const int16_t values[] = {0, 32767, 32767, -32768, -32768, 32767, 32767, 5};
+    uint8_t single[RESAMPLER_IMAGE_BYTES], image[RESAMPLER_LANES_BYTES], other[RESAMPLER_LANES_BYTES];
+    uint8_t input[sizeof values], output[64], again[64];
+    size_t n = sizeof image;
+    for (size_t i = 0; i < sizeof values / sizeof *values; i++)
+        resampler_put_sample(input, i, values[i]);
+    memset(output, 0xEE, sizeof output);
+    memset(again, 0xEE, sizeof again);
+    check("single start", resampler_start_word(single, sizeof single, RESAMPLER_PARABOLIC, 0x55555555, 7) == 0);
+    check("start of a lane", resampler_start_lanes_word(image, n, RESAMPLER_PARABOLIC, 0x55555555, 7) == 0);
+    for (int i = 0; i < 3; i++) {
+        memset(other, 0xEE, n);
+        memcpy(other, image, RESAMPLER_AT_LANE_HIGH);
+        check("single feed", resampler_feed(single, sizeof single, input, sizeof input, output, sizeof output) == 0);
+        check("feed of a lane", resampler_feed_lanes(image, n, 1, input, sizeof input, again, sizeof again) == 0);
+        check("outputs of a lane", memcmp(output, again, sizeof output) == 0);
+        check("image of lane 0", memcmp(single, image, sizeof single) == 0);
+        check("both sides", resampler_lane_high(image, 0) > 0 && resampler_lane_low(image, 0) > 0);
+        check("their sum", resampler_clips(single) == resampler_lane_clips(image, 0));
+        check("feed of a copy", resampler_feed_lanes(other, n, 1, input, sizeof input, again, sizeof again) == 0);
+        check("copy", memcmp(other, image, n) == 0 && memcmp(output, again, sizeof output) == 0);
     }
 }
 
@@ -196,14 +260,16 @@ static void lane_refusals(void)
 {
     static uint8_t in[RESAMPLER_LARGEST_BUFFER + 2], out[RESAMPLER_LARGEST_BUFFER + 2];
     uint8_t image[RESAMPLER_LANES_BYTES];
-    size_t one = RESAMPLER_IMAGE_BYTES, n = sizeof image, most = RESAMPLER_LARGEST_BUFFER;
+    size_t one = RESAMPLER_IMAGE_BYTES, before = 224, n = sizeof image, most = RESAMPLER_LARGEST_BUFFER;
     uint32_t all = RESAMPLER_MOST_LANES;
     check("rate 0", resampler_start_lanes_rates(image, n, RESAMPLER_LINEAR, 1, 0, 0) == RESAMPLER_BAD_RATE);
     check("40 bytes", resampler_start_lanes_word(image, one, RESAMPLER_LINEAR, 1, 0) == RESAMPLER_BAD_IMAGE);
+    check("224 bytes", resampler_start_lanes_word(image, before, RESAMPLER_LINEAR, 1, 0) == RESAMPLER_BAD_IMAGE);
     check("start", resampler_start_lanes_rates(image, n, RESAMPLER_LINEAR, 4, 1, 0) == RESAMPLER_ACCEPTED);
     check("largest buffers", resampler_feed_lanes(image, n, all, in, most, out, most) == RESAMPLER_ACCEPTED);
     check("samples a lane", resampler_taken(image) == 2048 && resampler_end(image) == RESAMPLER_HUNGRY);
     check("image", resampler_feed_lanes(image, n - 1, 0, in, 1, out, 0) == RESAMPLER_BAD_IMAGE);
+    check("earlier image", resampler_feed_lanes(image, before, 1, in, 2, out, 2) == RESAMPLER_BAD_IMAGE);
     check("buffer", resampler_feed_lanes(image, n, 0, in, most + 2, out, 0) == RESAMPLER_BAD_BUFFER);
     check("no lanes", resampler_feed_lanes(image, n, 0, in, 0, out, 0) == RESAMPLER_BAD_LANES);
     check("17 lanes", resampler_feed_lanes(image, n, all + 1, in, 0, out, 0) == RESAMPLER_BAD_LANES);
@@ -332,6 +398,8 @@ int main(void)
     samples();
     fields();
     lanes();
+    sides();
+    one_lane();
     lines();
     refusals();
     lane_refusals();

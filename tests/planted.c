@@ -51,6 +51,31 @@ static void keep(uint8_t *image, const uint8_t *before, size_t place, size_t byt
     memcpy(image + place, before + place, bytes);
 }
 
+static void put_number(uint8_t *at, uint32_t n)
+{
+    for (int i = 0; i < 4; i++)
+        at[i] = (uint8_t)(n >> 8 * i);
+}
+
+/* Mistakes in the counts of high and low clips: exchanged, all counted as high, lane 0's sum without the low ones, and
+   old counts of a lane past the count. */
+static void mistake_sides(uint8_t *image, const uint8_t *before, uint32_t lanes)
+{
+    enum { COUNTS = RESAMPLER_LANE_CLIPS_BYTES };
+    for (size_t i = 0; i < RESAMPLER_MOST_LANES; i++) {
+        uint8_t *high = image + RESAMPLER_AT_LANE_HIGH + i * COUNTS, *low = image + RESAMPLER_AT_LANE_LOW + i * COUNTS;
+        uint32_t of_high = resampler_lane_high(image, i), of_low = resampler_lane_low(image, i);
+        if (planted("lane sides") || planted("lane high")) {
+            put_number(high, planted("lane high") ? of_high + of_low : of_low);
+            put_number(low, planted("lane high") ? 0 : of_high);
+        }
+        if (planted("lane past") && i >= lanes)
+            keep(image, before, RESAMPLER_AT_LANE_HIGH + i * COUNTS, COUNTS);
+    }
+    if (planted("lane sum"))
+        put_number(image + RESAMPLER_AT_CLIPS, resampler_lane_high(image, 0));
+}
+
 uint32_t __wrap_resampler_feed_lanes(uint8_t *image, size_t image_length, uint32_t lanes, const uint8_t *input,
                                      size_t input_length, uint8_t *output, size_t output_length)
 {
@@ -64,11 +89,12 @@ uint32_t __wrap_resampler_feed_lanes(uint8_t *image, size_t image_length, uint32
         return result;
     memcpy(right, image, sizeof right);
     if (planted("lane clips"))
-        keep(image, before, RESAMPLER_AT_LANE_CLIPS, RESAMPLER_LANES_BYTES - RESAMPLER_AT_LANE_CLIPS);
+        keep(image, before, RESAMPLER_AT_LANE_HIGH, RESAMPLER_LANES_BYTES - RESAMPLER_AT_LANE_HIGH);
     if (planted("lane window") && lanes > 1) { /* that of lane 1, in the place of lane 2's */
         memcpy(image + resampler_lane_window(2), image + resampler_lane_window(1), WINDOW);
         keep(image, before, resampler_lane_window(1), WINDOW);
     }
+    mistake_sides(image, before, lanes);
     made = memcmp(image, right, sizeof right) != 0;
     return result;
 }

@@ -122,12 +122,13 @@ fn field(name: &str, ending: &str, bytes: &[u8]) -> String {
 }
 
 /// The parts of a buffer: one with fields by these, any other with runs and up to 16 bytes a part. A
-/// feed's input or output that is as long as an image is cut as one.
+/// feed's input or output of 40 bytes is cut as an image.
 fn parts(name: &str, bytes: &[u8]) -> Vec<String> {
     if bytes.is_empty() {
         return vec!["-".to_string()];
     }
-    let cut_as = if ["input", "output"].contains(&name) { "image" } else { name };
+    let as_image = ["input", "output"].contains(&name) && bytes.len() == image::LENGTH;
+    let cut_as = if as_image { "image" } else { name };
     if let Some(fields) = fields(cut_as, bytes.len()) {
         let part = |(_, place, size, count): Field| digits(&bytes[place..place + size * count]);
         return fields.into_iter().map(part).collect();

@@ -2,6 +2,7 @@
 //! over random chains of calls on one converter, then on lanes.
 
 use crate::calls::{self, Left};
+use crate::clips::Shown;
 use crate::compare_lanes::{Counts, LANES};
 use crate::compare_lines;
 use crate::generate::{self, Start};
@@ -24,6 +25,9 @@ pub struct Amount {
     pub calls: u64,
     pub seed: u64,
 }
+
+/// How many single outputs of each kernel are made at each limit.
+const AT_LIMIT: usize = 500;
 
 /// Compares, prints the tables, and says what the first difference is, if there is one.
 pub fn run(amount: &Amount) -> Result<(), String> {
@@ -70,7 +74,7 @@ pub struct Kind {
     pub bad_feed: fn(&mut Random, &[u8], u32) -> Call,
     /// The states in an image, and what a feed left of each.
     pub states: fn(&[u8]) -> Result<Vec<State>, u32>,
-    pub fed: fn(&[u8]) -> Result<Vec<Fed>, u32>,
+    pub fed: fn(&[u8]) -> Result<Vec<Fed<Shown>>, u32>,
     /// What else an accepted feed is held to.
     pub also: fn(&mut Comparison, &Call, &Answer) -> Result<(), String>,
 }
@@ -109,11 +113,18 @@ impl Comparison {
         Chain { image, papers: states.iter().map(Paper::resume).collect(), fresh: 0 }
     }
 
-    /// Single outputs from stored states that are hard to round.
+    /// Single outputs from stored states that are hard to round, or at a limit.
     fn halves(&mut self) -> Result<(), String> {
         for kernel in 0..4 {
             let mut states = halves::exact(&mut self.random, kernel, 1000);
             states.extend(halves::narrow(&mut self.random, kernel));
+            for halves in halves::limits(kernel) {
+                let random = &mut self.random;
+                states.extend((0..AT_LIMIT).map(|_| {
+                    let register = halves::sixteenths(random);
+                    halves::at_limit(random, kernel, register, halves)
+                }));
+            }
             for state in states {
                 let mut chain = self.stored(image::encode_fresh(state));
                 let call = host::feed(chain.image.clone(), Vec::new(), vec![0; 2]);
@@ -230,7 +241,7 @@ impl Comparison {
         chain.papers.extend(before[..count].iter().skip(chain.papers.len()).map(Paper::resume));
         chain.fresh = chain.fresh.min(count);
         let (input, output) = (host::samples(&call.buffers[1]), host::samples(&answer.buffers[2]));
-        let seen = |distance: &_| self.tally.hold(kernel, distance);
+        let seen = |output: &_| self.tally.hold(kernel, output);
         judge::feed_lanes(&mut chain.papers, count, &input, &output, &fed, seen)
             .map_err(|what| told(&what))?;
         for (lane, fed) in fed[..count].iter().enumerate() {

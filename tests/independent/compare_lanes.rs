@@ -4,10 +4,11 @@
 use crate::calls;
 use crate::compare::{count, described, Comparison, Kind};
 use crate::generate;
+use crate::halves;
 use crate::host::{self, Answer, Call, LARGEST_BUFFER};
 use crate::image;
 use crate::lane_image;
-use crate::lanes::{self, MOST};
+use crate::lanes::{self, Lanes, MOST};
 use crate::settings::{Setting, LARGEST_WORD};
 
 pub const LANES: Kind = Kind {
@@ -19,28 +20,71 @@ pub const LANES: Kind = Kind {
     feed: generate::feed_lanes,
     bad_feed: generate::bad_feed_lanes,
     states: |image| Ok(lane_image::decode(image)?.states()),
-    fed: |image| Ok(lane_image::fed(image)?.each()),
+    fed: lane_image::fed,
     also: Comparison::lane_by_lane,
 };
 
 /// Lengths of images that are none of lanes.
-const WRONG_LENGTHS: [usize; 5] =
-    [0, image::LENGTH, lane_image::LENGTH - 1, lane_image::LENGTH + 1, 2 * lane_image::LENGTH];
+const WRONG_LENGTHS: [usize; 6] = [
+    0,
+    image::LENGTH,
+    lane_image::OLD_LENGTH,
+    lane_image::LENGTH - 1,
+    lane_image::LENGTH + 1,
+    2 * lane_image::LENGTH,
+];
 
-/// What is counted beside the tally: feeds accepted with 1, 2 and so on lanes, lanes held against a
-/// single feed, and changes of one lane's samples.
+/// How many feeds of each kernel begin with every lane at a limit, and how many have a loud lane.
+const AT_LIMITS: usize = 400;
+const LOUD: usize = 3400;
+/// In how many feeds a lane has to clip on both sides.
+const ON_BOTH_SIDES: u64 = 10_000;
+
+/// What is counted beside the tally: feeds accepted with 1, 2 and so on lanes, feeds in which a
+/// lane clips on both sides, lanes held against a single feed, and changes of one lane's samples.
 #[derive(Default)]
 pub struct Counts {
     feeds: [u64; MOST],
+    on_both_sides: u64,
     alone: u64,
     changed: u64,
 }
 
 impl Comparison {
-    /// Calls with all refusals, each alone and with the others.
+    /// Calls with all refusals, each alone and with the others; lanes at the limits, and loud ones.
     pub fn lanes(&mut self) -> Result<(), String> {
         self.feeds()?;
-        self.starts()
+        self.starts()?;
+        self.limits()?;
+        self.loud()
+    }
+
+    /// Feeds of stored lanes: the first output of each has a value at a limit of holding or a half
+    /// past it, and those that follow are made of outermost samples.
+    fn limits(&mut self) -> Result<(), String> {
+        for kernel in (0..4).flat_map(|kernel| [kernel; AT_LIMITS]) {
+            let random = &mut self.random;
+            let register = halves::sixteenths(random);
+            let limits = halves::limits(kernel);
+            let mut state = || {
+                let halves = random.pick(&limits);
+                halves::at_limit(random, kernel, register, halves)
+            };
+            let first = state();
+            let others = [(); MOST - 1].map(|_| state().window);
+            let mut image = lane_image::encode_fresh(Lanes { first, others });
+            image.truncate(lane_image::CLIPS);
+            image.extend(random.bytes(lane_image::LENGTH - lane_image::CLIPS));
+            let count = 1 + random.below(MOST as u64) as usize;
+            let (taken, written) = (random.below(7) as usize, 1 + random.below(6) as usize);
+            let sample = |_| random.pick(&[i16::MIN, i16::MAX]);
+            let input = (0..taken * count).map(sample).collect::<Vec<i16>>();
+            let output = vec![0xee; 2 * written * count];
+            let call = host::feed_lanes(image.clone(), count as u32, host::bytes(&input), output);
+            let mut chain = self.stored(image);
+            self.feed(&mut chain, &call)?;
+        }
+        Ok(())
     }
 
     /// Feeds with every good lane count and with bad ones, with lengths that fit it and that do not, of
@@ -55,6 +99,30 @@ impl Comparison {
                     self.feed(&mut chain, &call)?;
                 }
             }
+        }
+        Ok(())
+    }
+
+    /// Feeds of up to four fresh lanes, one of them with outermost samples, at words that give one
+    /// or two outputs a sample: most of them clip on both sides in that lane.
+    fn loud(&mut self) -> Result<(), String> {
+        for kernel in (1..4).flat_map(|kernel| [kernel; LOUD]) {
+            let random = &mut self.random;
+            let word = (1 << 31) + random.below(1 << 31);
+            let fresh = lanes::start(kernel, Setting::Word(word), generate::phase(random));
+            let image =
+                fresh.map(lane_image::encode_fresh).map_err(|refusal| refusal.to_string())?;
+            let count = 1 + random.below(4) as u32;
+            let (loud, taken) = (random.below(count as u64) as u32, 24 + random.below(24) as usize);
+            let samples = |lane| match lane == loud {
+                true => (0..taken).map(|_| random.pick(&[i16::MIN, i16::MAX])).collect(),
+                false => generate::samples(random, taken),
+            };
+            let input = (0..count).flat_map(samples).collect::<Vec<i16>>();
+            let output = vec![0xee; 4 * taken * count as usize];
+            let call = host::feed_lanes(image.clone(), count, host::bytes(&input), output);
+            let mut chain = self.stored(image);
+            self.feed(&mut chain, &call)?;
         }
         Ok(())
     }
@@ -111,9 +179,13 @@ impl Comparison {
 
     /// Prints what was counted; a comparison that misses some of it says nothing.
     pub fn tell_lanes(&self) -> Result<(), String> {
-        let Counts { feeds, alone, changed } = &self.counts;
+        let Counts { feeds, on_both_sides, alone, changed } = &self.counts;
         let each = feeds.map(|count| format!(" {count}")).concat();
         println!("feeds accepted with 1 to {MOST} lanes:{each}");
+        println!("feeds in which a lane clips on both sides: {on_both_sides}");
+        if *on_both_sides < ON_BOTH_SIDES {
+            return Err(format!("fewer than {ON_BOTH_SIDES} of these: compare more"));
+        }
         println!(
             "{alone} lanes are fed as each alone; {changed} changes of one lane changed no other"
         );
@@ -127,6 +199,7 @@ impl Comparison {
     fn lane_by_lane(&mut self, call: &Call, answer: &Answer) -> Result<(), String> {
         let count = count(call);
         self.counts.feeds[count - 1] += 1;
+        self.counts.on_both_sides += lane_image::on_both_sides(&answer.buffers[0]) as u64;
         for lane in 0..count {
             self.alone(call, answer, lane)?;
         }

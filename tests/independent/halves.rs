@@ -1,5 +1,6 @@
 //! Stored states whose next output is hard to round: its value lies half-way between two whole
 //! numbers, or next to it. Arithmetic that is not exact, as with floats, goes wrong there first.
+//! And states whose next output is at a limit of holding, or a half past it.
 
 use crate::kernels::{self, Near};
 use crate::oscillator;
@@ -10,10 +11,8 @@ const TABLE: usize = 1 << 20;
 
 /// How far `state`'s next value lies above the half that is nearest to it, times `scale`.
 pub fn above_half(state: &State) -> i128 {
-    let fraction = oscillator::fraction(state.kernel, state.register as i128);
-    let m = oscillator::filter_fraction(fraction);
     let scale = kernels::scale(state.kernel, 14);
-    kernels::value(state.kernel, &state::near(state), m, 14).rem_euclid(scale) - scale / 2
+    state::exact(state).rem_euclid(scale) - scale / 2
 }
 
 /// The nearest that a value comes to a half without being one, times `scale`: one step of the
@@ -36,6 +35,49 @@ pub fn exact(random: &mut Random, kernel: u8, count: usize) -> Vec<State> {
         }
     }
     found
+}
+
+/// The limits of 16 bits, and a half past each, in halves. By request U5 the first is neither high
+/// nor low, the second, which is rounded to 32768, high, and the others neither: halves go upward.
+pub const LIMITS: [i128; 4] = [65534, 65535, -65536, -65537];
+
+/// Those that a kernel comes to: the value of the linear one lies between its samples.
+pub fn limits(kernel: u8) -> Vec<i128> {
+    match kernel {
+        0 => vec![LIMITS[0], LIMITS[2]],
+        _ => LIMITS.to_vec(),
+    }
+}
+
+/// A register in sixteenths of a sample, the whole ones left out, and anything in the bits that m
+/// does not have.
+pub fn sixteenths(random: &mut Random) -> u32 {
+    (random.below(15) as u32 + 1) << 28 | random.below(1 << 18) as u32
+}
+
+/// A state at such a register whose next value is so many halves, one of the limits: three samples
+/// are drawn, and the fourth is what is missing.
+pub fn at_limit(random: &mut Random, kernel: u8, register: u32, halves: i128) -> State {
+    let weights = weights(kernel, register);
+    let missing = if kernels::reach(kernel) == 1 { 2 } else { 3 };
+    let wanted = halves as i64 * (kernels::scale(kernel, 14) / 2) as i64;
+    loop {
+        let near = random.below(64) as i64;
+        let far = random.next() as i16 as i64;
+        let outermost = if halves > 0 { 32767 - near } else { near - 32768 };
+        let sample = |_: i64| random.pick(&[outermost, outermost, far, -outermost]);
+        let mut samples = [0; 4].map(sample).map(|sample| sample.clamp(-32768, 32767));
+        samples[missing] = 0;
+        let given = samples.iter().zip(weights).map(|(sample, weight)| sample * weight);
+        let rest = wanted - given.sum::<i64>();
+        samples[missing] = rest / weights[missing];
+        let found = samples[missing] * weights[missing] == rest;
+        if let (true, Ok(_)) = (found, i16::try_from(samples[missing])) {
+            let state = joined(kernel, register, samples.map(|sample| sample as i16));
+            assert_eq!(2 * state::exact(&state), halves * kernels::scale(kernel, 14));
+            return state;
+        }
+    }
 }
 
 /// States next to a half, at least four on either side: at most `nearest` from it. A value is the

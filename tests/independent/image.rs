@@ -1,5 +1,6 @@
 //! The image: a state saved in bytes. Document 01, "Saved state for the C host".
 
+use crate::clips::Shown;
 use crate::state::{self, End, Fed, State};
 
 pub const LENGTH: usize = 40;
@@ -50,7 +51,8 @@ pub fn decode(image: &[u8]) -> Result<State, u32> {
 }
 
 /// "40 bytes, little-endian: kernel, needed count, two zero bytes, register (4), word (8), window
-/// (four of 2), then taken, written, clips, and 0 for HUNGRY or 1 for FULL (4 each)".
+/// (four of 2), then taken, written, clips, and 0 for HUNGRY or 1 for FULL (4 each)"; the clips are
+/// the sum of both counts.
 pub fn encode(fed: &Fed) -> Vec<u8> {
     let state = &fed.state;
     let mut image = vec![state.kernel, state.needed, 0, 0];
@@ -63,7 +65,7 @@ pub fn encode(fed: &Fed) -> Vec<u8> {
         End::Hungry => 0,
         End::Full => 1,
     };
-    for count in [fed.taken as u32, fed.written as u32, fed.clips as u32, end] {
+    for count in [fed.taken as u32, fed.written as u32, fed.clips.sum() as u32, end] {
         image.extend(count.to_le_bytes());
     }
     image
@@ -71,7 +73,7 @@ pub fn encode(fed: &Fed) -> Vec<u8> {
 
 /// What a start leaves: the fresh state, zero counts, HUNGRY.
 pub fn encode_fresh(state: State) -> Vec<u8> {
-    encode(&Fed { state, taken: 0, written: 0, clips: 0, end: End::Hungry })
+    encode(&state.unfed())
 }
 
 /// The word of an image of the right length.
@@ -85,10 +87,10 @@ pub fn counts(image: &[u8]) -> [u32; 4] {
 }
 
 /// What a feed left in an image, if that is a state that is accepted.
-pub fn fed(image: &[u8]) -> Result<Fed, u32> {
+pub fn fed(image: &[u8]) -> Result<Fed<Shown>, u32> {
     let [taken, written, clips, end] = counts(image).map(|count| count as usize);
     let end = if end == 1 { End::Full } else { End::Hungry };
-    Ok(Fed { state: decode(image)?, taken, written, clips, end })
+    Ok(Fed { state: decode(image)?, taken, written, clips: Shown::Sum(clips), end })
 }
 
 pub fn little(bytes: &[u8]) -> u64 {

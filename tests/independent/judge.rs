@@ -1,22 +1,32 @@
 //! What demand 3 says of one call in a list, against the paper's run. Every error says in words
 //! what differs.
 
+use crate::clips::{Clips, Shown, Side};
 use crate::kernels;
 use crate::lanes;
 use crate::paper::{Distance, Page, Paper};
 use crate::settings::Setting;
 use crate::state::{End, Fed, State};
 
+/// An output, how far it lies from the paper's value, its exact value at m, times
+/// `kernels::scale(kernel, 14)`, and its side.
+pub struct Seen {
+    pub output: i16,
+    pub distance: Distance,
+    pub exact: i128,
+    pub side: Side,
+}
+
 /// Runs a feed on paper and holds its answer against it: taken, written and end, the outputs that
-/// it wrote, the clips and the state. `seen` is shown how far each output lies from the paper's
-/// value.
-pub fn feed(
+/// it wrote, the clips, of both sides where both are shown, and the state. `seen` is told of each
+/// output.
+pub fn feed<C: Copy + Into<Shown>>(
     paper: &mut Paper,
     input: &[i16],
     outputs: &[i16],
     space: usize,
-    fed: &Fed,
-    mut seen: impl FnMut(&Distance),
+    fed: &Fed<C>,
+    mut seen: impl FnMut(&Seen),
 ) -> Result<Page, String> {
     let before = paper.made();
     let page = paper.feed(input, space);
@@ -28,13 +38,16 @@ pub fn feed(
         ));
     }
     assert_eq!(outputs.len(), fed.written);
-    let mut clips = 0;
+    let mut clips = Clips::default();
     for (k, &output) in outputs.iter().enumerate() {
-        let clip = hold(paper, paper.position(&page, k), output, &mut seen);
-        clips += clip.map_err(|what| format!("output {k} of the feed {what}"))? as usize;
+        let held = hold(paper, paper.position(&page, k), output);
+        let held = held.map_err(|what| format!("output {k} of the feed {what}"))?;
+        clips.count(held.side);
+        seen(&held);
     }
-    if fed.clips != clips {
-        return Err(format!("the feed counted {} clips; on paper there are {clips}", fed.clips));
+    let shown: Shown = fed.clips.into();
+    if !shown.is_of(clips) {
+        return Err(format!("the feed counted as clips {shown:?}; on paper there are {clips:?}"));
     }
     end(paper, before + fed.written, input.len(), space, fed)?;
     state(paper, &fed.state)?;
@@ -43,13 +56,13 @@ pub fn feed(
 
 /// The same for a feed of so many lanes, each with a run of its own. The output is all that the
 /// feed was lent. The lanes that it did not reach have no run from then on.
-pub fn feed_lanes(
+pub fn feed_lanes<C: Copy + Into<Shown>>(
     papers: &mut Vec<Paper>,
     count: usize,
     input: &[i16],
     output: &[i16],
-    fed: &[Fed],
-    mut seen: impl FnMut(&Distance),
+    fed: &[Fed<C>],
+    mut seen: impl FnMut(&Seen),
 ) -> Result<(), String> {
     papers.truncate(count);
     each(papers, |lane, paper| {
@@ -105,19 +118,13 @@ fn each(
 
 /// "card output k equals the value of demand 2 at the paper's basepoint and at m of the paper's
 /// fraction", and "lies at most 1/2 + D/K from the paper's value held to 16 bits" (demand 3).
-/// Whether it is a clip.
-fn hold(
-    paper: &Paper,
-    position: i128,
-    output: i16,
-    seen: &mut impl FnMut(&Distance),
-) -> Result<bool, String> {
-    let (value, clip) = paper.output(position);
+fn hold(paper: &Paper, position: i128, output: i16) -> Result<Seen, String> {
+    let exact = paper.exact(position);
+    let (value, side) = kernels::output(paper.kernel(), exact);
     if output != value {
         return Err(format!("is {output}; at the paper's basepoint and m it is {value}"));
     }
     let distance = paper.distance(position, output);
-    seen(&distance);
     let Distance { is, may_be } = distance;
     if is > may_be {
         let scale = kernels::scale(paper.kernel(), 32);
@@ -125,12 +132,18 @@ fn hold(
             "is {output} and lies {is}/{scale} from the paper's value; it may lie {may_be}/{scale}"
         ));
     }
-    Ok(clip)
+    Ok(Seen { output, distance, exact, side })
 }
 
 /// "A feed ends hungry exactly when its input is spent and as many outputs are made as the paper
 /// has over the samples taken so far, and otherwise full, with its space all written." (demand 3)
-fn end(paper: &Paper, made: usize, length: usize, space: usize, fed: &Fed) -> Result<(), String> {
+fn end<C>(
+    paper: &Paper,
+    made: usize,
+    length: usize,
+    space: usize,
+    fed: &Fed<C>,
+) -> Result<(), String> {
     let hungry = fed.taken == length && made == paper.has();
     let right = match fed.end {
         End::Hungry => hungry,

@@ -1,5 +1,7 @@
 //! The four kernels over whole numbers. Document 01, "Kernels".
 
+use crate::clips::Side;
+
 /// The samples around a basepoint b: "x0 is sample b, x1 is sample b+1, xm is sample b−1, x2 is
 /// sample b+2". Kernels with R = 1 leave x2 unused.
 #[derive(Clone, Copy, Debug)]
@@ -59,13 +61,15 @@ pub fn value(kernel: u8, near: &Near, part: i128, bits: u32) -> i128 {
         + at3 * square * part
 }
 
-/// The output at m, and whether it clips: "The value is kept exact, rounded to the nearest whole
-/// number with halves upward, then held to −32768..32767. A held output counts as one clip."
-pub fn output(kernel: u8, near: &Near, m: i128) -> (i16, bool) {
+/// The output of an exact value at m, times `scale`, and on which side it clips: "The value is
+/// kept exact, rounded to the nearest whole number with halves upward, then held to
+/// −32768..32767. A held output counts as one clip."
+pub fn output(kernel: u8, exact: i128) -> (i16, Side) {
     let scale = scale(kernel, 14);
-    let rounded = floor_div(2 * value(kernel, near, m, 14) + scale, 2 * scale);
-    let held = rounded.clamp(-32768, 32767);
-    (held as i16, held != rounded)
+    let rounded = floor_div(2 * exact + scale, 2 * scale);
+    let (held, side) = (rounded.clamp(-32768, 32767), Side::of(rounded));
+    assert_eq!(held != rounded, side.is_clip());
+    (held as i16, side)
 }
 
 /// floor(a/c), c above zero. Numbers that fit are divided in 64 bits, which is quicker.

@@ -1,5 +1,6 @@
 //! Lanes: up to sixteen sensors on one clock, fed in one call. Request U1.
 
+use crate::clips::Clips;
 use crate::settings::Setting;
 use crate::state::{self, End, State};
 
@@ -13,13 +14,14 @@ pub struct Lanes {
     pub others: [[i16; 4]; MOST - 1],
 }
 
-/// What a feed returns. Samples taken, outputs written and the end are those of every lane.
+/// What a feed returns. Samples taken, outputs written and the end are those of every lane; of
+/// clips there are two counts "for each lane" (request U5).
 #[derive(Clone, Copy, Debug)]
 pub struct Fed {
     pub lanes: Lanes,
     pub taken: usize,
     pub written: usize,
-    pub clips: [usize; MOST],
+    pub clips: [Clips; MOST],
     pub end: End,
 }
 
@@ -38,7 +40,8 @@ impl Lanes {
 
     /// What a call that feeds nothing hands back: the lanes, "with counts 0".
     pub fn unfed(self) -> Fed {
-        Fed { lanes: self, taken: 0, written: 0, clips: [0; MOST], end: End::Hungry }
+        let clips = [Clips::default(); MOST];
+        Fed { lanes: self, taken: 0, written: 0, clips, end: End::Hungry }
     }
 }
 

@@ -110,9 +110,9 @@ fn row(paper: &Paper, number: usize, position: i128) -> String {
     let jump = paper.jump(position);
     let m = oscillator::filter_fraction(fraction);
     let exact = in_lowest_terms(paper.exact(position), kernels::scale(kernel, 14));
-    let (output, clip) = paper.output(position);
+    let (output, side) = paper.output(position);
     let Distance { is, may_be } = paper.distance(position, output);
-    let (distance, bound, clip) = (scaled(is), scaled(may_be), clip as u8);
+    let (distance, bound, clip) = (scaled(is), scaled(may_be), side.is_clip() as u8);
     format!(
         "output {number} {position} {basepoint} {fraction} {value} {held} {jump} \
          {m} {exact} {output} {clip} {distance} {bound}\n"

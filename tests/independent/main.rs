@@ -6,6 +6,7 @@
 
 mod calls;
 mod cases;
+mod clips;
 #[cfg(library)]
 mod compare;
 #[cfg(library)]
@@ -58,7 +59,8 @@ const USAGE: &str = "usage:
   values                what the program check_values must write
   runs                  what the program check_runs must write
   output KERNEL REGISTER SAMPLE SAMPLE SAMPLE SAMPLE
-                        one output, and 1 if it is a clip; the register in hexadecimal";
+                        one output, and high, low or neither; the register in
+                        hexadecimal";
 
 fn main() -> ExitCode {
     let arguments = std::env::args().skip(1).collect::<Vec<String>>();

@@ -1,5 +1,6 @@
 //! The paper's run, with exact positions and fractions. Document 01, "Feeding" and "Kernels".
 
+use crate::clips::Side;
 use crate::kernels::{self, Near};
 use crate::oscillator;
 use crate::settings::{self, Setting};
@@ -153,9 +154,9 @@ impl Paper {
     }
 
     /// "the value of demand 2 at the paper's basepoint and at m of the paper's fraction, over the
-    /// joined samples", and whether it clips.
-    pub fn output(&self, position: i128) -> (i16, bool) {
-        kernels::output(self.kernel, &self.near(position), self.m(position))
+    /// joined samples", and its side.
+    pub fn output(&self, position: i128) -> (i16, Side) {
+        kernels::output(self.kernel, self.exact(position))
     }
 
     /// The same before it is rounded, times `kernels::scale(kernel, 14)`.

@@ -50,7 +50,7 @@ fn convert(
             *text += &format!("{:04X}\n", *place as u16);
         }
         totals.outputs = totals.outputs.wrapping_add(fed.written as u64);
-        totals.clips = totals.clips.wrapping_add(fed.clips as u64);
+        totals.clips = totals.clips.wrapping_add(fed.clips.sum() as u64);
         samples = &samples[fed.taken..];
         state = fed.state;
         if fed.end == End::Hungry {

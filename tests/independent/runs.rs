@@ -2,6 +2,7 @@
 //! over all that the calls answered, and totals. A list that begins with an accepted start is also
 //! held to demand 3, call by call.
 
+use crate::clips::Clips;
 use crate::draw::{Draw, PLACES};
 use crate::judge;
 use crate::lane_runs;
@@ -31,10 +32,10 @@ fn line(number: usize) -> Result<String, String> {
         };
         done.map_err(|what| format!("{name}, list {list}: {what}"))?;
     }
-    let Tally { hash, calls, taken, written, clips, refused } = group.tally;
+    let Tally { hash, calls, taken, written, clips: Clips { high, low }, refused } = group.tally;
     Ok(format!(
-        "{name}: {calls} calls, hash {hash}, taken {taken}, written {written}, clips {clips}, \
-         refused {refused}\n"
+        "{name}: {calls} calls, hash {hash}, taken {taken}, written {written}, high {high}, \
+         low {low}, refused {refused}\n"
     ))
 }
 
@@ -45,7 +46,7 @@ pub struct Tally {
     calls: usize,
     taken: usize,
     written: usize,
-    clips: usize,
+    clips: Clips,
     refused: usize,
 }
 
@@ -75,14 +76,16 @@ impl Tally {
 
     /// A feed after its answer, with the clips of each lane, and the whole buffer that its output
     /// places are the first of.
-    pub fn fed(&mut self, fed: &Fed, clips: &[usize], buffer: &[i16]) {
+    pub fn fed(&mut self, fed: &Fed, clips: &[Clips], buffer: &[i16]) {
         self.mix(&[fed.taken as u64, fed.written as u64]);
-        clips.iter().for_each(|&clips| self.mix(&[clips as u64]));
+        for &clips in clips {
+            self.mix(&[clips.high as u64, clips.low as u64]);
+            self.clips.add(clips);
+        }
         self.mix(&[(fed.end == End::Full).into()]);
         self.mix_samples(buffer);
         self.taken += fed.taken;
         self.written += fed.written;
-        self.clips += clips.iter().sum::<usize>();
     }
 }
 
@@ -154,8 +157,7 @@ impl Group {
         }
     }
 
-    /// Lends the first places of the buffer, as many as the space. A refused feed returns "the
-    /// state given, counts 0".
+    /// Lends the first places of the buffer, as many as the space.
     fn feed(
         &mut self,
         list: &mut List,
@@ -163,9 +165,8 @@ impl Group {
         buffer: &mut [i16],
         space: usize,
     ) -> Result<(), String> {
-        let none = Fed { state: list.state, taken: 0, written: 0, clips: 0, end: End::Hungry };
         let answer = state::feed(list.state, input, &mut buffer[..space]);
-        let fed = answer.unwrap_or(none);
+        let fed = answer.unwrap_or(list.state.unfed());
         list.state = fed.state;
         self.tally.answered(&list.state, &[], answer.err().unwrap_or(0));
         self.tally.fed(&fed, &[fed.clips], buffer);

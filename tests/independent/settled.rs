@@ -1,13 +1,15 @@
 //! The settled examples of document 01, starred or not, the printed examples of the program, and
-//! what requests U1 to U4 settle, run on the implementation before every command.
+//! what requests U1 to U5 settle, run on the implementation before every command.
 
+use crate::clips::{Clips, Side, Side::*};
 use crate::frame_image;
-use crate::frames::{self, Start};
+use crate::frames::{self, Data, Start};
 use crate::host;
 use crate::image;
 use crate::judge;
 use crate::kernels;
 use crate::lane_image;
+use crate::lines;
 use crate::oscillator;
 use crate::paper::Paper;
 use crate::program;
@@ -31,6 +33,8 @@ pub fn run() -> Result<usize, String> {
     examples.extend(lines());
     examples.extend(table());
     examples.extend(order());
+    examples.extend(sides());
+    examples.extend(counts());
     examples.extend(facts());
     match examples.iter().find(|(_, holds)| !holds) {
         Some((name, _)) => Err(format!("settled example does not hold: {name}")),
@@ -85,16 +89,19 @@ fn single_outputs() -> Vec<Example> {
     let at = |kernel, register, window| values::output(kernel, (register, window)).unwrap();
     let at_half = |kernel, window| at(kernel, 1 << 31, window);
     vec![
-        ("kernel 2 at u = 1/2 over 16, 32, 48, 80: 38", at_half(2, [16, 32, 48, 80]) == (38, 0)),
-        ("kernel 0 at 1/2: 0, 1 gives 1", at_half(0, [0, 0, 0, 1]) == (1, 0)),
-        ("kernel 0 at 1/2: 0, -1 gives 0", at_half(0, [0, 0, 0, -1]) == (0, 0)),
+        (
+            "kernel 2 at u = 1/2 over 16, 32, 48, 80: 38",
+            at_half(2, [16, 32, 48, 80]) == (38, Neither),
+        ),
+        ("kernel 0 at 1/2: 0, 1 gives 1", at_half(0, [0, 0, 0, 1]) == (1, Neither)),
+        ("kernel 0 at 1/2: 0, -1 gives 0", at_half(0, [0, 0, 0, -1]) == (0, Neither)),
         (
             "kernel 3 at 1/2: -32768, 32767, 32767, -32768 gives 32767, one clip",
-            at_half(3, [-32768, 32767, 32767, -32768]) == (32767, 1),
+            at_half(3, [-32768, 32767, 32767, -32768]) == (32767, High),
         ),
         (
             "kernel 1, b 1 with m -4096, 10, 20, 40: 17",
-            at(1, 0xc0000000, [0, 10, 20, 40]) == (17, 0),
+            at(1, 0xc0000000, [0, 10, 20, 40]) == (17, Neither),
         ),
     ]
 }
@@ -166,11 +173,12 @@ fn lanes() -> Vec<Example> {
     let fed = feed(0, 2, &[0, 100, 40, 0, -1, 0], 16);
     let outputs = host::bytes(&[0, 50, 100, 70, 0, 0, -1, 0]);
     vec![
-        ("the image of lanes has 224 bytes", fresh.result == 0 && lane_image::LENGTH == 224),
+        ("the image of lanes has 288 bytes", fresh.result == 0 && lane_image::LENGTH == 288),
         (
             "a start of lanes with the image of one: refusal 5",
             host::answer(&start(image::LENGTH)).result == 5,
         ),
+        ("a start of lanes with 224 bytes: refusal 5", host::answer(&start(224)).result == 5),
         ("lanes one after another in the buffers", fed.result == 0 && fed.buffers[2] == outputs),
         ("two lanes and 6 bytes: refusal 13", refused(0, 2, &[1, 2, 3], 8) == 13),
         ("two lanes and 6 bytes of output: refusal 13", refused(0, 2, &[1, 2], 6) == 13),
@@ -304,6 +312,69 @@ fn order() -> Vec<Example> {
             input(&[7, 9, 8]) == b"0000\n0032\n0064\n0046\nR15\n",
         ),
         ("the program: FFFFFFFF may come first", ended(&[top])),
+    ]
+}
+
+/// Request U5, on single outputs at u = 1/2, of kernel 1 at −1/2. A row says how many eighths the
+/// exact value lies above 32767, or below −32768, has windows of kernels 1, 2 and 3 that give it, as
+/// distances from that sample, and the side above and below.
+fn sides() -> Vec<Example> {
+    let is = |(eighths, windows, high, low): Row| {
+        let each = |top: i16, sign: i16, side| {
+            (1..4).zip(windows).all(|(kernel, window)| {
+                let window = window.map(|distance| top - sign * distance);
+                let state = state::State { kernel, needed: 0, register: 1 << 31, word: 1, window };
+                let exact = 8 * top as i128 + sign as i128 * eighths;
+                8 * state::exact(&state) == exact * kernels::scale(kernel, 14)
+                    && values::output(kernel, (1 << 31, window)) == Ok((top, side))
+            })
+        };
+        each(32767, 1, high) && each(-32768, -1, low)
+    };
+    type Row = (i128, [[i16; 4]; 3], Side, Side);
+    let exactly: Row = (0, [[0, 1, 0, 3], [2, 0, 1, 3], [3, 0, 1, 6]], Neither, Neither);
+    let less = (3, [[0, 0, 0, 3], [1, 0, 0, 2], [3, 0, 0, 3]], Neither, Neither);
+    let half = (4, [[0, 0, 0, 4], [2, 0, 0, 2], [4, 0, 0, 4]], High, Neither);
+    let more = (5, [[0, 0, 0, 5], [2, 0, 0, 3], [5, 0, 0, 5]], High, Low);
+    vec![
+        ("32767 and -32768 are not held: neither", is(exactly)),
+        ("32767 3/8 and -32768 3/8 are rounded to these: neither", is(less)),
+        ("32767 1/2 is rounded to 32768: high; -32768 1/2 to -32768: neither", is(half)),
+        ("32767 5/8 is rounded to 32768: high; -32768 5/8 to -32769: low", is(more)),
+        (
+            "kernel 3 at 1/2: 32767, -32768, -32768, 32767 gives -32768, low",
+            values::output(3, (1 << 31, [32767, -32768, -32768, 32767])) == Ok((-32768, Low)),
+        ),
+    ]
+}
+
+/// Request U5, on a run of kernel 3 with one clip on either side: the two counts, and where their
+/// sum stands.
+fn counts() -> Vec<Example> {
+    let samples = [-32768, 32767, 32767, -32768, -32768, 32767];
+    let setting = Setting::Word(HALF);
+    let fresh = state::start(3, setting, 0).unwrap();
+    let fed = state::feed(fresh, &samples, &mut [0; 8]).unwrap();
+    let image = image::encode(&fed);
+    let start = host::start("start_lanes", vec![0xee; lane_image::LENGTH], 3, setting, 0);
+    let mut lanes = host::answer(&start).buffers.remove(0);
+    let fresh_counts = lanes[lane_image::CLIPS..].iter().all(|&byte| byte == 0);
+    lanes[lane_image::CLIPS..].fill(0xee);
+    let input = host::bytes(&[samples, [0; 6], samples].concat());
+    let feed = host::feed_lanes(lanes, 3, input, vec![0; 48]);
+    let lanes = host::answer(&feed).buffers.remove(0);
+    let count = |place: usize| image::little(&lanes[place..][..4]);
+    let sides = |lane: usize| [160 + 8 * lane, 164 + 8 * lane].map(count);
+    let written = lines::data_line(&Data { sequence: 0, samples: samples.to_vec() });
+    let ended = program::run(&[&b"K308000000000000000\n"[..], &written].concat());
+    vec![
+        ("one high clip and one low", fed.clips == Clips { high: 1, low: 1 }),
+        ("the image of one has their sum", image::little(&image[32..36]) == 2),
+        ("the image of lanes has both", [0, 1, 2].map(sides) == [[1, 1], [0, 0], [1, 1]]),
+        ("in lane 0's image their sum", count(32) == 2),
+        ("lanes past the count report none", (3..16).all(|lane| sides(lane) == [0, 0])),
+        ("a start of lanes leaves none", fresh_counts),
+        ("the E line has their sum", ended.ends_with(b"E00000000000000080000000000000002\n")),
     ]
 }
 

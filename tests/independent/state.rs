@@ -1,5 +1,6 @@
 //! State, start, retune and feed over samples. Document 01, "Feeding".
 
+use crate::clips::{Clips, Side};
 use crate::kernels::{self, Near};
 use crate::oscillator;
 use crate::settings::{self, Setting, LARGEST_WORD};
@@ -15,19 +16,27 @@ pub struct State {
     pub window: [i16; 4],
 }
 
+impl State {
+    /// What a call that feeds nothing hands back: "the state given, counts 0".
+    pub fn unfed(self) -> Fed {
+        Fed { state: self, taken: 0, written: 0, clips: Clips::default(), end: End::Hungry }
+    }
+}
+
 #[derive(Clone, Copy, Debug, PartialEq, Eq)]
 pub enum End {
     Hungry,
     Full,
 }
 
-/// "It returns state, samples taken, outputs written, clips among them, and FULL or HUNGRY."
+/// "It returns state, samples taken, outputs written, clips among them, and FULL or HUNGRY." The
+/// clips are two counts (request U5), or what is shown of them.
 #[derive(Clone, Copy, Debug, PartialEq, Eq)]
-pub struct Fed {
+pub struct Fed<C = Clips> {
     pub state: State,
     pub taken: usize,
     pub written: usize,
-    pub clips: usize,
+    pub clips: C,
     pub end: End,
 }
 
@@ -63,14 +72,14 @@ pub fn retune(state: State, setting: Setting) -> Result<State, u32> {
 /// The feeding rule, one step at a time.
 pub fn feed(mut state: State, input: &[i16], output: &mut [i16]) -> Result<Fed, u32> {
     check(&state)?;
-    let (mut taken, mut written, mut clips) = (0, 0, 0);
+    let (mut taken, mut written, mut clips) = (0, 0, Clips::default());
     let end = loop {
         if state.needed == 0 && written < output.len() {
             // "if no sample is needed and the output buffer has space, write the next output"
-            let (sample, clip) = next_output(&mut state);
+            let (sample, side) = next_output(&mut state);
             output[written] = sample;
             written += 1;
-            clips += clip as usize;
+            clips.count(side);
         } else if state.needed == 0 {
             // "if none is needed and there is no space, end FULL"
             break End::Full;
@@ -89,14 +98,20 @@ pub fn feed(mut state: State, input: &[i16], output: &mut [i16]) -> Result<Fed, 
 }
 
 /// The output that the state stands at; the oscillator goes on by the word.
-fn next_output(state: &mut State) -> (i16, bool) {
+fn next_output(state: &mut State) -> (i16, Side) {
     let kernel = state.kernel;
-    let fraction = oscillator::fraction(kernel, state.register as i128);
-    let m = oscillator::filter_fraction(fraction);
-    let answer = kernels::output(kernel, &near(state), m);
+    let answer = kernels::output(kernel, exact(state));
     state.needed = oscillator::advance(kernel, state.register, state.word) as u8;
     state.register = oscillator::register(state.register as i128 + state.word as i128);
     answer
+}
+
+/// The value of the output that the state stands at, before it is rounded, times
+/// `kernels::scale(kernel, 14)`.
+pub fn exact(state: &State) -> i128 {
+    let fraction = oscillator::fraction(state.kernel, state.register as i128);
+    let m = oscillator::filter_fraction(fraction);
+    kernels::value(state.kernel, &near(state), m, 14)
 }
 
 /// When an output is due the newest sample is sample b + R.

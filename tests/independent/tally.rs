@@ -1,6 +1,9 @@
 //! What was compared, and the tables that say so.
 
+use crate::clips::Clips;
+use crate::halves;
 use crate::host::{Answer, Call, Row, ROWS};
+use crate::judge::Seen;
 use crate::kernels;
 use crate::paper::Distance;
 use crate::settings::LARGEST_WORD;
@@ -8,16 +11,12 @@ use crate::state::{End, Fed};
 use std::collections::{BTreeMap, BTreeSet};
 
 /// What is counted of each kernel's feeds; the second two are outputs at the outermost words.
-const COUNTED: [&str; 8] = [
-    "from starts",
-    "from stored",
-    "at word 1",
-    "at word 2^34",
-    "FULL",
-    "HUNGRY",
-    "samples",
-    "clips",
-];
+const COUNTED: [&str; 7] =
+    ["from starts", "from stored", "at word 1", "at word 2^34", "FULL", "HUNGRY", "samples"];
+
+/// How many values of each kernel there have to be at every limit that it comes to, and between a
+/// limit and the half past it.
+const AT_LIMITS: u64 = 500;
 
 #[derive(Default)]
 pub struct Tally {
@@ -30,10 +29,45 @@ pub struct Tally {
     /// By kernel and what is counted.
     counts: BTreeMap<(u8, &'static str), u64>,
     outputs: u64,
+    /// By kernel.
+    clips: [Clips; 4],
+    limits: [Limits; 4],
     /// By kernel the largest distance to the paper's value, and the smallest margin to the bound,
     /// multiplied by `kernels::scale(kernel, 32)`.
     nearest: [Option<Distance>; 4],
 }
+
+/// Values at `halves::LIMITS`, and those past a limit by less than a half: above 32767 and below
+/// −32768. Rounding brings these back to it.
+#[derive(Default)]
+struct Limits {
+    at: [u64; 4],
+    above: u64,
+    below: u64,
+}
+
+impl Limits {
+    /// Counts a value of a kernel, times `kernels::scale(kernel, 14)`.
+    fn count(&mut self, kernel: u8, exact: i128) {
+        let scale = kernels::scale(kernel, 14);
+        let [highest, above, lowest, below] = halves::LIMITS.map(|halves| halves * scale);
+        let twice = 2 * exact;
+        match [highest, above, lowest, below].iter().position(|limit| *limit == twice) {
+            Some(limit) => self.at[limit] += 1,
+            None if (highest..above).contains(&twice) => self.above += 1,
+            None if (below..lowest).contains(&twice) => self.below += 1,
+            None => (),
+        }
+    }
+
+    fn counts(&self) -> [u64; 6] {
+        let [highest, above, lowest, below] = self.at;
+        [highest, self.above, above, lowest, self.below, below]
+    }
+}
+
+/// What `Limits::counts` are of, in words.
+const LIMITS: [&str; 6] = ["32767", "between", "32767.5", "-32768", "between", "-32768.5"];
 
 impl Tally {
     /// Of calls of the rows that are kept.
@@ -47,7 +81,7 @@ impl Tally {
 
     /// A feed that was held to the paper, from a start or from a stored state. It leaves the word as
     /// it is: it was in force for all that the feed wrote.
-    pub fn fed(&mut self, fed: &Fed, fresh: bool) {
+    pub fn fed<C>(&mut self, fed: &Fed<C>, fresh: bool) {
         self.outputs += fed.written as u64;
         let mut add = |what, count: usize| {
             *self.counts.entry((fed.state.kernel, what)).or_default() += count as u64
@@ -55,7 +89,6 @@ impl Tally {
         add(if fresh { "from starts" } else { "from stored" }, fed.written);
         add(if fed.end == End::Full { "FULL" } else { "HUNGRY" }, 1);
         add("samples", fed.taken);
-        add("clips", fed.clips);
         match fed.state.word {
             1 => add("at word 1", fed.written),
             LARGEST_WORD => add("at word 2^34", fed.written),
@@ -63,10 +96,15 @@ impl Tally {
         }
     }
 
-    /// How far from the paper's value an output lay.
-    pub fn hold(&mut self, kernel: u8, distance: &Distance) {
-        let Distance { is, may_be } = *distance;
-        let nearest = self.nearest[kernel as usize].get_or_insert(Distance { is, may_be });
+    /// An output that was held against the paper.
+    pub fn hold(&mut self, kernel: u8, seen: &Seen) {
+        let place = kernel as usize;
+        if [i16::MIN, i16::MAX].contains(&seen.output) {
+            self.clips[place].count(seen.side);
+            self.limits[place].count(kernel, seen.exact);
+        }
+        let Distance { is, may_be } = seen.distance;
+        let nearest = self.nearest[place].get_or_insert(Distance { is, may_be });
         nearest.is = nearest.is.max(is);
         nearest.may_be = nearest.may_be.min(may_be - is);
     }
@@ -83,16 +121,21 @@ impl Tally {
     pub fn print(&self) {
         self.print_calls(&format!(" in {} chains", self.chains));
         println!("{} outputs, by kernel:", self.outputs);
-        let distances = ["largest distance", "smallest margin"];
-        print_row("kernel", COUNTED.iter().chain(&distances));
+        let others = ["high", "low", "largest distance", "smallest margin"];
+        print_row("kernel", COUNTED.iter().chain(&others));
         for kernel in 0..4 {
             let scale = kernels::scale(kernel, 32) as f64;
             let nearest = self.nearest[kernel as usize].as_ref();
             let [largest, margin] =
                 nearest.map_or([0, 0], |near| [near.is, near.may_be]).map(|n| n as f64 / scale);
             let counts = COUNTED.map(|what| self.of(kernel, what).to_string());
-            let distances = [format!("{largest:.6}"), format!("{margin:.2e}")];
-            print_row(&kernel.to_string(), counts.iter().chain(&distances));
+            let [high, low] = self.sides(kernel).map(|count| count.to_string());
+            let others = [high, low, format!("{largest:.6}"), format!("{margin:.2e}")];
+            print_row(&kernel.to_string(), counts.iter().chain(&others));
+        }
+        print_row("values at", LIMITS);
+        for (kernel, limits) in self.limits.iter().enumerate() {
+            print_row(&format!("kernel {kernel}"), limits.counts());
         }
     }
 
@@ -111,13 +154,30 @@ impl Tally {
         *self.counts.get(&(kernel, what)).unwrap_or(&0)
     }
 
+    /// High and low clips.
+    fn sides(&self, kernel: u8) -> [u64; 2] {
+        let Clips { high, low } = self.clips[kernel as usize];
+        [high as u64, low as u64]
+    }
+
     /// A comparison that misses an answer of a call, or something that is counted of a kernel, says
-    /// nothing. The linear kernel never clips: its value lies between its samples.
+    /// nothing. The linear kernel never clips, and comes to the limits but not past them: its value
+    /// lies between its samples.
     pub fn complete(&self) -> Result<(), String> {
         self.answered()?;
-        for (kernel, what) in (0..4).flat_map(|kernel| COUNTED.map(|what| (kernel, what))) {
-            if (self.of(kernel, what) > 0) == ((kernel, what) == (0, "clips")) {
-                return Err(format!("kernel {kernel}, {what}: not as it has to be; compare more"));
+        for kernel in 0..4 {
+            let told =
+                |what: &str| format!("kernel {kernel}, {what}: not as it has to be; compare more");
+            if let Some(what) = COUNTED.iter().find(|what| self.of(kernel, what) == 0) {
+                return Err(told(what));
+            }
+            let past = kernel != 0;
+            if self.sides(kernel).map(|count| count > 0) != [past; 2] {
+                return Err(told("high or low"));
+            }
+            let enough = self.limits[kernel as usize].counts().map(|count| count >= AT_LIMITS);
+            if enough != [true, past, past, true, past, past] {
+                return Err(told("values at the limits"));
             }
         }
         let (calls, title, outputs) = (self.total_calls(), self.title, self.outputs);

@@ -1,6 +1,7 @@
 //! What the program `check_values` must write: for each kernel two hashes over the outputs of
 //! fixed cases, drawn ones and edges. And the output of one case.
 
+use crate::clips::{Clips, Side};
 use crate::draw::Draw;
 use crate::kernels;
 use crate::listings;
@@ -20,17 +21,17 @@ pub fn lines() -> Result<String, String> {
     Ok(text)
 }
 
-/// The output and the clip of a kernel, a register in hexadecimal and a window; m, and the value
+/// The output of a kernel, a register in hexadecimal and a window, and its side; m, and the value
 /// before it is rounded.
 pub fn one(words: &[&str]) -> Result<String, String> {
     let wanted = "a kernel, a register in hexadecimal and four samples are wanted";
     let (kernel, case) = read(words).ok_or(wanted)?;
-    let (output, clips) = output(kernel, case)?;
+    let (output, side) = output(kernel, case)?;
+    let side = format!("{side:?}").to_lowercase();
     let m = oscillator::filter_fraction(oscillator::fraction(kernel, case.0 as i128));
-    let near = state::near(&State { kernel, needed: 0, register: case.0, word: 1, window: case.1 });
-    let value = kernels::value(kernel, &near, m, 14);
+    let value = state::exact(&standing(kernel, case));
     let exact = listings::in_lowest_terms(value, kernels::scale(kernel, 14));
-    Ok(format!("{output} {clips}\nm {m}, exact {exact}\n"))
+    Ok(format!("{output} {side}\nm {m}, exact {exact}\n"))
 }
 
 fn read(words: &[&str]) -> Option<(u8, Case)> {
@@ -41,25 +42,38 @@ fn read(words: &[&str]) -> Option<(u8, Case)> {
     Some((kernel.parse().ok()?, (register, window)))
 }
 
-/// The next output of a state that needs no sample, and the clips, 0 or 1.
-pub fn output(kernel: u8, (register, window): Case) -> Result<(i16, usize), String> {
-    let state = State { kernel, needed: 0, register, word: 1, window };
+/// A state that needs no sample.
+fn standing(kernel: u8, (register, window): Case) -> State {
+    State { kernel, needed: 0, register, word: 1, window }
+}
+
+/// The next output of such a state, and its side by the counts of a feed.
+pub fn output(kernel: u8, case: Case) -> Result<(i16, Side), String> {
     let mut place = [0];
-    match state::feed(state, &[], &mut place) {
-        Ok(fed) => Ok((place[0], fed.clips)),
-        Err(refusal) => Err(format!("kernel {kernel}: refusal {refusal}")),
+    let fed = state::feed(standing(kernel, case), &[], &mut place)
+        .map_err(|refusal| format!("kernel {kernel}: refusal {refusal}"))?;
+    match (fed.clips.high, fed.clips.low) {
+        (0, 0) => Ok((place[0], Side::Neither)),
+        (1, 0) => Ok((place[0], Side::High)),
+        (0, 1) => Ok((place[0], Side::Low)),
+        _ => Err(format!("kernel {kernel}: one output with {:?}", fed.clips)),
     }
 }
 
 fn line(kernel: u8, name: &str, cases: &[Case]) -> Result<String, String> {
-    let (mut hash, mut clips) = (0, 0);
+    let (mut hash, mut clips) = (0, Clips::default());
     for &case in cases {
-        let (output, clip) = output(kernel, case)?;
-        hash = (hash * 65599 + output as u16 as u64 * 2 + clip as u64) % (1 << 31);
-        clips += clip;
+        let (output, side) = output(kernel, case)?;
+        let number = match side {
+            Side::Neither => 0,
+            Side::High => 1,
+            Side::Low => 2,
+        };
+        hash = (hash * 65599 + output as u16 as u64 * 3 + number) % (1 << 31);
+        clips.count(side);
     }
-    let count = cases.len();
-    Ok(format!("kernel {kernel} {name}: {count} cases, hash {hash}, clips {clips}\n"))
+    let (count, Clips { high, low }) = (cases.len(), clips);
+    Ok(format!("kernel {kernel} {name}: {count} cases, hash {hash}, high {high}, low {low}\n"))
 }
 
 fn drawn() -> Vec<Case> {

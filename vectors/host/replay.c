@@ -31,8 +31,8 @@
 #define NAMES 24        /* names of buffers in the table */
 
 #define IMAGE 40                  /* bytes of an image */
-#define CLIPS (IMAGE + 15 * 8)    /* where the clip counts of an image of lanes begin */
-#define OF_LANES (CLIPS + 16 * 4) /* bytes of an image of lanes, which begins with an image */
+#define CLIPS (IMAGE + 15 * 8)    /* where the clips of an image of lanes begin, two of each */
+#define OF_LANES (CLIPS + 16 * 8) /* bytes of an image of lanes, which begins with an image */
 #define OF_DATA 8                 /* bytes of what is read of a D line */
 #define OF_START 16               /* bytes of what is read of a K line */
 
@@ -105,9 +105,11 @@ struct field {
     int is_signed, shown;
 };
 
-#define LANE(i)                                                                 \
-    {"image", OF_LANES, "lane " #i " window", IMAGE + 8 * (i - 1), 2, 4, 1, 0}, \
-        {"image", OF_LANES, "lane " #i " clips", CLIPS + 4 * i, 4, 1, 0, 0}
+#define SIDES(i)                                                        \
+    {"image", OF_LANES, "lane " #i " high", CLIPS + 8 * i, 4, 1, 0, 0}, \
+        {"image", OF_LANES, "lane " #i " low", CLIPS + 8 * i + 4, 4, 1, 0, 0}
+#define LANE(i) \
+    {"image", OF_LANES, "lane " #i " window", IMAGE + 8 * (i - 1), 2, 4, 1, 0}, SIDES(i)
 
 static const struct field fields[] = {
     {"image", IMAGE, "kernel", 0, 1, 1, 0, 1}, {"image", IMAGE, "needed", 1, 1, 1, 0, 0},
@@ -115,7 +117,7 @@ static const struct field fields[] = {
     {"image", IMAGE, "word", 8, 8, 1, 0, 1},   {"image", IMAGE, "window", 16, 2, 4, 1, 0},
     {"image", IMAGE, "taken", 24, 4, 1, 0, 0}, {"image", IMAGE, "written", 28, 4, 1, 0, 0},
     {"image", IMAGE, "clips", 32, 4, 1, 0, 0}, {"image", IMAGE, "end", 36, 4, 1, 0, 0},
-    {"image", OF_LANES, "lane 0 clips", CLIPS, 4, 1, 0, 0},
+    SIDES(0),
     LANE(1), LANE(2), LANE(3), LANE(4), LANE(5), LANE(6), LANE(7), LANE(8), LANE(9), LANE(10),
     LANE(11), LANE(12), LANE(13), LANE(14), LANE(15),
     {"frame", OF_DATA, "sequence", 0, 4, 1, 0, 0}, {"frame", OF_DATA, "count", 4, 4, 1, 0, 0},

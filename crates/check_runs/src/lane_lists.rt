@@ -3,8 +3,10 @@ ghost use Prim.Native.Nat.{_≤_, _<_};
 use crate::Tally;
 use crate::answered;
 use crate::any_kernel;
+use crate::clipped;
 use crate::counted;
 use crate::draw;
+use crate::ended;
 use crate::fill;
 use crate::phase;
 use crate::setting;
@@ -29,19 +31,20 @@ fn returned(tally: Tally, lanes: Lanes, refusal: u8) -> LaneRun {
     }
 }
 
+// The tally with the clips of all lanes.
+fn lanes_clipped(tally: Tally, answer: FedLanes) -> Tally {
+    let highs = answer.highs;
+    let lows = answer.lows;
+    clipped(tally, &highs, &lows)
+}
+
 // A feed more, with the whole buffer that its output places are the first of.
 fn returned_feed(tally: Tally, answer: FedLanes, buffer: &[i16]) -> LaneRun {
     let next = returned(tally, answer.lanes, answer.refusal);
-    let clips = answer.clips;
+    let fed = counted(next.tally, answer.taken, answer.written);
+    let after = lanes_clipped(fed, answer);
     let end = answer.end;
-    let whole = counted(
-        next.tally,
-        answer.taken,
-        answer.written,
-        &clips,
-        end,
-        buffer,
-    );
+    let whole = ended(after, end, buffer);
     LaneRun {
         tally: whole,
         ..next

@@ -16,7 +16,8 @@ struct Tally {
     calls: u64,
     taken: u64,
     written: u64,
-    clips: u64,
+    high: u64,
+    low: u64,
     refused: u64,
 }
 
@@ -263,17 +264,20 @@ fn end_of(end: End) -> u64 {
     }
 }
 
-// The tally with counts of clips.
-fn clipped(tally: Tally, clips: &[usize]) -> Tally {
+// The tally with the clips of each lane, high and low.
+fn clipped(tally: Tally, highs: &[usize], lows: &[usize]) -> Tally {
     let mut after = tally;
     let mut i = 0;
-    while i < clips.len() {
-        let n = clips[i] as u64;
-        let hash = mix(after.hash, n);
-        let all = sum(after.clips, n);
+    while i < highs.len() && i < lows.len() {
+        let high = highs[i] as u64;
+        let low = lows[i] as u64;
+        let hash = mix(mix(after.hash, high), low);
+        let all_high = sum(after.high, high);
+        let all_low = sum(after.low, low);
         after = Tally {
             hash: hash,
-            clips: all,
+            high: all_high,
+            low: all_low,
             ..after
         };
         i += 1;
@@ -281,29 +285,25 @@ fn clipped(tally: Tally, clips: &[usize]) -> Tally {
     after
 }
 
-// The tally with a feed's counts and end, and the whole buffer that its output places are the first of.
-fn counted(
-    tally: Tally,
-    taken: usize,
-    written: usize,
-    clips: &[usize],
-    end: End,
-    buffer: &[i16],
-) -> Tally {
+// The tally with the samples taken and the outputs written of a feed.
+fn counted(tally: Tally, taken: usize, written: usize) -> Tally {
     let hash = mix(mix(tally.hash, taken as u64), written as u64);
     let all_taken = sum(tally.taken, taken as u64);
     let all_written = sum(tally.written, written as u64);
-    let fed = Tally {
+    Tally {
         hash: hash,
         taken: all_taken,
         written: all_written,
         ..tally
-    };
-    let after = clipped(fed, clips);
-    let whole = mix_samples(mix(after.hash, end_of(end)), buffer);
+    }
+}
+
+// The tally with a feed's end, and the whole buffer that its output places are the first of.
+fn ended(tally: Tally, end: End, buffer: &[i16]) -> Tally {
+    let hash = mix_samples(mix(tally.hash, end_of(end)), buffer);
     Tally {
-        hash: whole,
-        ..after
+        hash: hash,
+        ..tally
     }
 }
 
@@ -372,9 +372,12 @@ fn fed(seed: &mut u64, run: Run) -> Run {
     let window = after.window;
     let tally = answered(run.tally, after, &window, answer.refusal);
     let counts = answer.counts;
-    let clips = [kernels::total_clips(counts.clips)];
+    let clips = counts.clips;
+    let highs = [clips.high];
+    let lows = [clips.low];
     let end = counts.end;
-    let whole = counted(tally, counts.taken, counts.written, &clips, end, &output);
+    let fed = counted(tally, counts.taken, counts.written);
+    let whole = ended(clipped(fed, &highs, &lows), end, &output);
     Run {
         state: after,
         tally: whole,
@@ -464,7 +467,8 @@ fn lists(group: u8) -> Tally {
         calls: 0,
         taken: 0,
         written: 0,
-        clips: 0,
+        high: 0,
+        low: 0,
         refused: 0,
     };
     let mut i: u64 = 0;
@@ -485,7 +489,8 @@ fn show(group: &[u8], tally: Tally) {
     number(b" calls, hash ", tally.hash);
     number(b", taken ", tally.taken);
     number(b", written ", tally.written);
-    number(b", clips ", tally.clips);
+    number(b", high ", tally.high);
+    number(b", low ", tally.low);
     number(b", refused ", tally.refused);
     io::write_all(STDOUT_FILENO, b"\n");
 }

@@ -1,8 +1,8 @@
 // Runs each kernel over windows that a generator draws and over windows of edge values, and prints a line for each kernel and kind: how many cases, a hash of the outputs
-// and clips in order, and how many clips. The file `stdout` holds what an independent model of document 01 prints. Each function is proved free of overflow and of access
-// out of bounds.
+// and their sides in order, and how many clips are high and how many low. The file `stdout` holds what an independent model of document 01 prints. Each function is proved free
+// of overflow and of access out of bounds.
 ghost use Prim.Native.Nat.{_≤_};
-use kernels_spec::Clips;
+use kernels_spec::Side;
 use libc::STDOUT_FILENO;
 
 // A register, a window, oldest sample first, and the generator's state after both are drawn.
@@ -12,10 +12,11 @@ struct Case {
     state: u64,
 }
 
-// The outputs so far: their hash and how many are clips.
+// The outputs so far: their hash, and how many clips are high and how many low.
 struct Tally {
     hash: u64,
-    clips: u64,
+    high: u64,
+    low: u64,
 }
 
 // The generator's state after one more draw. It stays below 2^31, so the first remainder changes nothing.
@@ -103,22 +104,27 @@ fn edge_case(i: u64) -> Case {
     }
 }
 
-// An output's clips, of which there is one at the most.
-fn clip_of(clips: Clips) -> u64
-    ensures { λ r. ⌜ r ≤ 1 ⌝ }
+// A number of an output's side.
+fn number_of(side: Side) -> u64
+    ensures { λ r. ⌜ r ≤ 2 ⌝ }
 {
-    if kernels::is_none(clips) { 0 } else { 1 }
+    match side {
+        Side::Neither => 0,
+        Side::High => 1,
+        Side::Low => 2,
+    }
 }
 
-// The tally with the kernel's output over one more window. Both numbers stay below 2^31, so the first remainders change nothing.
+// The tally with the kernel's output over one more window. All three numbers stay below 2^31, so the first remainders change nothing.
 fn add(tally: Tally, kernel: u8, register: u32, window: [i16; 4]) -> Tally {
     let output = kernels::evaluate(kernel, register, window);
     let value = integers::bits(output.value) as u64;
-    let clips = output.clips;
-    let clip = clip_of(clips);
+    let side = output.side;
+    let number = number_of(side);
     Tally {
-        hash: (tally.hash % 0x8000_0000 * 65599 + value * 2 + clip) % 0x8000_0000,
-        clips: tally.clips % 0x8000_0000 + clip,
+        hash: (tally.hash % 0x8000_0000 * 65599 + value * 3 + number) % 0x8000_0000,
+        high: tally.high % 0x8000_0000 + number % 2,
+        low: tally.low % 0x8000_0000 + number / 2,
     }
 }
 
@@ -131,7 +137,11 @@ fn case_of(drawn: bool, i: u64, state: u64) -> Case {
 }
 
 fn over(kernel: u8, drawn: bool, cases: u64) -> Tally {
-    let mut tally = Tally { hash: 0, clips: 0 };
+    let mut tally = Tally {
+        hash: 0,
+        high: 0,
+        low: 0,
+    };
     let mut state: u64 = 1;
     let mut i: u64 = 0;
     while i < cases {
@@ -150,8 +160,10 @@ fn show(kernel: u8, cases: &[u8], tally: Tally) {
     io::write_all(STDOUT_FILENO, cases);
     io::write_all(STDOUT_FILENO, b" cases, hash ");
     io::print_decimal(STDOUT_FILENO, tally.hash);
-    io::write_all(STDOUT_FILENO, b", clips ");
-    io::print_decimal(STDOUT_FILENO, tally.clips);
+    io::write_all(STDOUT_FILENO, b", high ");
+    io::print_decimal(STDOUT_FILENO, tally.high);
+    io::write_all(STDOUT_FILENO, b", low ");
+    io::print_decimal(STDOUT_FILENO, tally.low);
     io::write_all(STDOUT_FILENO, b"\n");
 }
 

@@ -1,5 +1,6 @@
 // A pass over samples that lie in one slice, so that the newest four samples of an output are a part of it and nothing is shifted.
 use kernels::add_clips;
+use kernels::excess_clips;
 use kernels::is_none;
 use kernels::no_clips;
 use pass::make_output;
@@ -32,21 +33,22 @@ fn stretch(kernel: u8, word: u64, from: Progress, samples: &[i16], output: &mut 
     let mut register = from.register;
     let mut at = from.at;
     let mut written = from.written;
-    let mut last = no_clips();
-    while at <= end && written < output.len() && is_none(last) {
+    let mut excess: i64 = 0;
+    while written < output.len() && at <= end && excess == 0 {
         let made = make_output(kernel, word, register, window_at(samples, at));
-        last = made.clips;
+        excess = made.excess;
         at = at + made.advance;
         register = made.register;
         let v = made.value;
         output[written] = v;
         written = written + 1;
     }
+    let clips = excess_clips(excess);
     Progress {
         register: register,
         at: at,
         written: written,
-        clips: last,
+        clips: clips,
     }
 }
 

@@ -9,6 +9,7 @@ pub mod Amounts
 pub mod PaperRun
 pub mod Follows
 pub mod Third
+pub mod SideCounts
 pub mod Traces
 pub mod OneFeed
 pub mod MostOutputs

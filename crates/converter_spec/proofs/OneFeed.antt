@@ -16,8 +16,9 @@ use Rattle.oscillator_spec.specs.Word.{word, wordOf}
 use Rattle.oscillator_spec.specs.Position.{Oscillator, oscillator, next}
 use Rattle.oscillator_spec.proofs.Words.{word-within}
 use Rattle.kernels_spec.specs.Kernel.{Kernel, kernelOf}
-use Rattle.kernels_spec.specs.Clips.{noClips}
-use Rattle.kernels_spec.specs.Value.{value}
+use Rattle.kernels_spec.specs.declared.clips.Clips.{Clips}
+use Rattle.kernels_spec.specs.Clips.{noClips, total}
+use Rattle.kernels_spec.specs.Value.{isHigh, isLow, outside, value}
 use Rattle.kernels_spec.specs.Distance.{CloseAt}
 use Rattle.converter_state.specs.declared.state.Started.{Started}
 use Rattle.converter_spec.specs.declared.feeding.Fed.{Fed}
@@ -26,9 +27,11 @@ use Rattle.converter_spec.specs.declared.feeding.End.{End}
 use Rattle.converter_spec.specs.declared.feeding.End.the-variants as end
 use Rattle.converter_spec.specs.Feeding.{HUNGRY, FULL, endNumber, FedRight}
 use Rattle.converter_spec.specs.Paper.{Compared, fed, tuned, Paper, paperOf, Did, wordIn, begin, ahead, positionAt, first, BeforeFirst, count, outputsOver, joins, counted, feeds, does, run, afterwards, positions}
+use Rattle.converter_spec.specs.CountedSides.{valuesThat}
 use Rattle.converter_spec.specs.Demand.{Call, feed, Seen, outputs, clipsAt, EachEnds, Agreement, Agrees}
 use Rattle.converter_spec.proofs.Count.{ahead-sum, first-length, first-at, map-at, before-only, count-first, standing, outputs-first}
 use Rattle.converter_spec.proofs.Third.{third}
+use Rattle.converter_spec.proofs.SideCounts.{sides-at, sum-at}
 
 -- ---- positions a word apart: those made and those ahead are those from the start on
 standing-first : (o : Oscillator) (c i : ℕ) → standing (first o c) (ahead o c) i ≡ positionAt o i
@@ -143,3 +146,13 @@ module _ (k : ℕ) (a : Setting) (P w : ℕ) (ew : wordOf a ≡ word w) {input o
 
   pub one-clips : f .counts .clips ≡ clipsAt (kernelOf k) (take (f .counts .taken) input) (first (oscillator P w) (f .counts .written))
   one-clips = ap (λ ns. getD ns 0 noClips) (agreement .clips)
+
+  -- on each side, and in all (request U5)
+  abbrev thatAre : (ℤ → Bool) → ℕ
+  thatAre test = valuesThat test (kernelOf k) (take (f .counts .taken) input) (first (oscillator P w) (f .counts .written))
+
+  pub one-sides : (f .counts .clips .high ≡ thatAre isHigh) × (f .counts .clips .low ≡ thatAre isLow) × (total (f .counts .clips) ≡ thatAre outside)
+  one-sides =
+      let at = first (oscillator P w) (f .counts .written) in
+      let e = one-clips ∙ sides-at (kernelOf k) (take (f .counts .taken) input) at in
+      (ap (λ (c : Clips). c .high) e, ap (λ (c : Clips). c .low) e, ap total one-clips ∙ sum-at (kernelOf k) (take (f .counts .taken) input) at)

@@ -1,3 +1,4 @@
 pub mod Feeding
 pub mod Paper
 pub mod Demand
+pub mod CountedSides

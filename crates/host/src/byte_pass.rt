@@ -2,6 +2,7 @@
 use bytes::put_sample;
 use bytes::sample_at;
 use kernels::add_clips;
+use kernels::excess_clips;
 use kernels::is_none;
 use kernels::no_clips;
 use pass::make_output;
@@ -35,20 +36,21 @@ fn stretch(kernel: u8, word: u64, from: Progress, samples: &[u8], output: &mut [
     let mut register = from.register;
     let mut at = from.at;
     let mut written = from.written;
-    let mut last = no_clips();
-    while at <= end && written < space && is_none(last) {
+    let mut excess: i64 = 0;
+    while written < space && at <= end && excess == 0 {
         let made = make_output(kernel, word, register, window_at(samples, at));
-        last = made.clips;
+        excess = made.excess;
         at = at + made.advance;
         register = made.register;
         put_sample(output, written, made.value);
         written = written + 1;
     }
+    let clips = excess_clips(excess);
     Progress {
         register: register,
         at: at,
         written: written,
-        clips: last,
+        clips: clips,
     }
 }
 

@@ -1,34 +1,34 @@
 -- The loop of `feed_each` over plain values: what holds when the lanes before j are fed, that a feed of lane j carries it on, and what it comes to when all are. Assumes nothing.
 use mathlib.Core.Path.{_≡_, refl, sym, ap, subst, _∙_}
-use mathlib.Core.Bool.{true}
-use mathlib.Core.List.{List, [], _∷_, _++_, append-assoc}
+use mathlib.Core.List.{List, [], _∷_, _++_, flatMap, append-assoc}
 use Prim.Native.Nat.{ℕ, zero, suc, _+_, _-_, _*_, _/_, _≤_, _<_}
 use native.Mathlib.Omega.{arith}
 use native.Mathlib.Nat.{div-le-self, mul-one, suc-mul, mul-le-mul, le-refl}
-use lib.ListN.{length, take, drop, getD, set, length-append, length-drop, drop-of-length-le}
-use lib.Seq.{length-take-le, take-at, drop-at, take-add, take-append-add, drop-append-add, drop-cons, drop-drop, sets-eq}
-use Rattle.kernels_spec.specs.Clips.{total}
+use lib.ListN.{length, take, drop, replicate, getD, set, length-append, length-drop, getD-replicate, drop-of-length-le}
+use lib.Seq.{length-take-le, take-at, drop-at, take-add, take-append-add, drop-append-add, drop-cons, drop-drop, getD-drop, ext-getD, sets-eq}
+use Rattle.kernels_spec.specs.declared.clips.Clips.{Clips}
+use Rattle.kernels_spec.specs.Clips.{noClips}
 use Rattle.converter_state.specs.declared.state.State.{State}
 use Rattle.converter_state.specs.Start.{stateOf}
 use Rattle.converter_spec.specs.declared.feeding.Fed.{Fed}
 use Rattle.converter_spec.specs.Feeding.{fedOf, outputsOf}
 use Rattle.bytes_spec.specs.Bytes.{samplesOf, pairsOf}
 use Rattle.bytes_spec.specs.Overwritten.{over}
-use Rattle.bytes_spec.proofs.Samples.{samples-long, pairs-long}
+use Rattle.bytes_spec.proofs.Samples.{pairs-long}
 use Rattle.bytes_spec.proofs.Overwriting.{over-past, over-long}
-use Rattle.lanes_state.specs.Parts.{part, lanePart, each}
+use Rattle.lanes_state.specs.Parts.{part, lanePart}
 use Rattle.lanes_state.specs.Lanes.{laneLimit}
 use Rattle.lanes_state.proofs.Parts.{within, within-front, within-taken, each-length}
 use Rattle.lanes_spec.specs.declared.feeding.FedLanes.{FedLanes}
-use Rattle.lanes_spec.specs.LaneFeeding.{noneClipped, laneClips, fedLane, areParts, acceptedLanes, fedLanesOf, laneFed}
-use Rattle.lanes_spec.proofs.LanesAlone.{Parted, parts-are, share-length, lane-four, fed-windows, fed-clips}
+use Rattle.lanes_spec.specs.LaneFeeding.{laneClips, laneFed}
+use Rattle.lanes_spec.proofs.LanesAlone.{Parted, parts-are, share-length, lane-four, fed-windows}
 use Rattle.host_spec.specs.Image.{windowPlace, countsPlace, imageLength, stateIn}
 use Rattle.host_spec.specs.Host.{outputFed}
 use Rattle.host_spec.specs.LaneImage.{windowSize, otherWindowsPlace, laneClipsPlace, lanesLength, otherWindows, lanesIn, laneWindowPlace, laneImage}
-use Rattle.host_spec.specs.LaneHost.{answerIn, lanesOutputFed}
-use Rattle.host_spec.proofs.LaneImages.{is-lanes-image, lanes-in, lane-in, lane-image-state, first-lane}
-use Rattle.host_spec.proofs.LaneFeeds.{bytes-shared, bytes-each, bytes-parted, lanes-windows, fed-samples, fed-samples-long, have-windows, input-even, old-even, lane-fed-answer, output-fed, output-long}
-use Rattle.host_lanes.specs.LaneByLane.{laneBy, Counted, LaneRight, Feeding, windowsFed, firstOf, EachRight}
+use Rattle.host_spec.specs.LaneHost.{answerIn, allClips, lanesOutputFed}
+use Rattle.host_spec.proofs.LaneImages.{is-lanes-image, lane-in, lane-image-state, first-lane}
+use Rattle.host_spec.proofs.LaneFeeds.{each-at, answer-silent, bytes-shared, bytes-each, bytes-parted, lanes-windows, fed-samples, fed-samples-long, have-windows, input-even, old-even, lane-fed-answer, output-fed, output-long}
+use Rattle.host_lanes.specs.LaneByLane.{laneBy, Counted, LaneRight, Feeding, windowsFed, firstOf, numbersOf, EachRight}
 use Rattle.host_lanes.proofs.PartByPart.{until, until-all, until-none, until-part, until-next}
 
 -- ---- a window that is written in an image: what lies behind lane 0's image
@@ -63,11 +63,20 @@ module _ (img ps : List ℕ) (l : length img ≡ lanesLength) (e : length ps ≡
     written-front : take imageLength (take at img ++ (ps ++ drop (at + windowSize) img)) ≡ take imageLength img
     written-front = ap (take imageLength) in-two ∙ take-at (take imageLength img) _ imageLength forty
 
--- ---- a store into an array, as a part of one
-one-part : (ns : List ℕ) (i : ℕ) → i < length ns → part 1 i ns ≡ getD ns i 0 ∷ []
-one-part ns i h = ap (λ k. take 1 (drop k ns)) (mul-one i) ∙ ap (take 1) (drop-cons ns i 0 h)
+-- ---- the counts of lane i, stored one after the other, and as a part of one
+numbers-stored : (ks : List Clips) (i : ℕ) (k : Clips) → i < length ks → set (set (flatMap numbersOf ks) (i * 2) (k .high)) (i * 2 + 1) (k .low) ≡ flatMap numbersOf (set ks i k)
+unfolding flatMap
+numbers-stored [] i k h = absurd (omega arith)
+numbers-stored (x ∷ ks) zero k h = refl
+numbers-stored (x ∷ ks) (suc i) k h =
+    let e : suc i * 2 ≡ suc (suc (i * 2)) = omega arith in
+    let f : suc i * 2 + 1 ≡ suc (suc (i * 2 + 1)) = omega arith in
+    rw (f, e) (ap (λ ns. x .high ∷ x .low ∷ ns) (numbers-stored ks i k (omega arith)))
 
-one-stored : (ns : List ℕ) (i n : ℕ) → i < length ns → set ns i n ≡ take (i * 1) ns ++ ((n ∷ []) ++ drop (i * 1 + 1) ns)
+one-part : {A : Type 0} (ks : List A) (d : A) (i : ℕ) → i < length ks → part 1 i ks ≡ getD ks i d ∷ []
+one-part ks d i h = ap (λ k. take 1 (drop k ks)) (mul-one i) ∙ ap (take 1) (drop-cons ks i d h)
+
+one-stored : {A : Type 0} (ns : List A) (i : ℕ) (n : A) → i < length ns → set ns i n ≡ take (i * 1) ns ++ ((n ∷ []) ++ drop (i * 1 + 1) ns)
 one-stored ns i n h =
     sets-eq (n ∷ []) ns i (omega arith) ∙ append-assoc (take i ns) (n ∷ []) (drop (i + 1) ns) ∙ ap (λ k. take k ns ++ ((n ∷ []) ++ drop (k + 1) ns)) (sym (mul-one i))
 
@@ -95,6 +104,10 @@ module _ (image : List ℕ) (c : ℕ) (input old : List ℕ) where
   abbrev pub behind : List ℕ
   behind = over (windowsFed image c input old) before
 
+  -- no clips yet
+  abbrev noneCounted : List Clips
+  noneCounted = replicate laneLimit noClips
+
   pub record SomeFed (img out clips : List ℕ) (first : Fed) (j : ℕ) : Type 0 where
     pub all : Feeding image c input old
     pub most : j ≤ c
@@ -102,7 +115,7 @@ module _ (image : List ℕ) (c : ℕ) (input old : List ℕ) where
     pub front : j ≡ 0 → take imageLength img ≡ take imageLength image
     pub rest : drop imageLength img ≡ until windowSize (j - 1) behind before
     pub outputs : out ≡ until space j (lanesOutputFed image c input old) old
-    pub held : clips ≡ until 1 j (answer .clips) noneClipped
+    pub held : clips ≡ flatMap numbersOf (until 1 j (allClips answer) noneCounted)
     pub answered-first : 0 < j → (first ≡ laneFed answer 0) × Counted first 65536 65536
 
   module _ (a : Feeding image c input old) where
@@ -124,15 +137,23 @@ module _ (image : List ℕ) (c : ℕ) (input old : List ℕ) where
     outputs-long : length (lanesOutputFed image c input old) ≡ length old
     outputs-long = output-long image (a .accepted) c input old (a .buffers) (a .parts)
 
-    clips-past : drop (c * 1) (answer .clips) ≡ drop (c * 1) noneClipped
-    unfolding fedLanesOf acceptedLanes
-    clips-past =
-        let p : areParts c (length (samplesOf input)) (length old / 2) ≡ true = ap (λ n. areParts c n (length old / 2)) (samples-long input) ∙ a .parts in
-        let one : ℕ → List ℕ = λ i. total (fedLane (lanesIn image) c (samplesOf input) (length old / 2) i .counts .clips) ∷ [] in
-        let e = each-length one 1 c (λ i h. refl) in
-        rw (lanes-in image (a .accepted), p) (ap (λ n. drop n (over (each one c) noneClipped)) (sym e) ∙ over-past (each one c) noneClipped ∙ ap (λ n. drop n noneClipped) e)
+    all-clips-long : length (allClips answer) ≡ laneLimit
+    all-clips-long = each-length (λ i. laneClips answer i ∷ []) 1 laneLimit (λ i h. refl)
 
-    pub none-fed : {first : Fed} → SomeFed image old noneClipped first 0
+    -- the counts of lanes past the count stay 0
+    clips-past : drop (c * 1) (allClips answer) ≡ drop (c * 1) noneCounted
+    clips-past = ext-getD noClips (drop (c * 1) (allClips answer)) (drop (c * 1) noneCounted) (length-drop (c * 1) (allClips answer) ∙ ap (λ n. n - c * 1) all-clips-long ∙ sym (length-drop (c * 1) noneCounted)) same
+      where
+        same : (i : ℕ) → i < length (drop (c * 1) (allClips answer)) → getD (drop (c * 1) (allClips answer)) i noClips ≡ getD (drop (c * 1) noneCounted) i noClips
+        same i h =
+            let m : c * 1 + i < laneLimit = omega (arith, h, length-drop (c * 1) (allClips answer), all-clips-long) in
+            getD-drop (c * 1) (allClips answer) i noClips
+            ∙ each-at (laneClips answer) noClips laneLimit (c * 1 + i) m
+            ∙ answer-silent image (a .accepted) c input old (a .buffers) (a .parts) (c * 1 + i) (omega arith)
+            ∙ sym (getD-drop (c * 1) noneCounted i noClips ∙ getD-replicate laneLimit (c * 1 + i) noClips noClips m)
+
+    pub none-fed : {first : Fed} → SomeFed image old (replicate (laneLimit * 2) 0) first 0
+    unfolding flatMap noClips
     none-fed =
         let z : 0 - 1 ≡ 0 = omega arith in
         record {
@@ -142,7 +163,7 @@ module _ (image : List ℕ) (c : ℕ) (input old : List ℕ) where
           front = λ e. refl;
           rest = sym (ap (λ k. until windowSize k behind before) z ∙ until-none windowSize behind before);
           outputs = sym (until-none space (lanesOutputFed image c input old) old);
-          held = sym (until-none 1 (answer .clips) noneClipped);
+          held = sym (ap (flatMap numbersOf) (until-none 1 (allClips answer) noneCounted));
           answered-first = λ h. absurd (omega (arith, h));
         }
 
@@ -159,11 +180,10 @@ module _ (image : List ℕ) (c : ℕ) (input old : List ℕ) where
         let front = length-take-le (j * space) (lanesOutputFed image c input old) (omega (arith, fits, old-shared (some .all), whole)) in
         ap length (some .outputs) ∙ over-long (take (j * space) (lanesOutputFed image c input old)) old (omega (arith, front, fits, old-shared (some .all)))
 
-    clips-long : length clips ≡ laneLimit
+    clips-long : length (until 1 j (allClips answer) noneCounted) ≡ laneLimit
     clips-long =
-        let whole = fed-clips (lanesIn image) c (samplesOf input) (length old / 2) in
         let few : j * 1 ≤ laneLimit = omega (arith, some .most, q (some .all) .below) in
-        ap length (some .held) ∙ over-long (take (j * 1) (answer .clips)) noneClipped (omega (arith, length-take-le (j * 1) (answer .clips) (omega (arith, few, whole)), few))
+        over-long (take (j * 1) (allClips answer)) noneCounted (omega (arith, length-take-le (j * 1) (allClips answer) (omega (arith, few, all-clips-long (some .all))), few))
 
   -- ---- lane k, which is next: its window is as it was
   old-window : (k : ℕ) {img out clips : List ℕ} {first : Fed} → SomeFed img out clips first k → k < c → take windowSize (drop (laneWindowPlace k) img) ≡ take windowSize (drop (laneWindowPlace k) image)
@@ -277,15 +297,16 @@ module _ (image : List ℕ) (c : ℕ) (input old : List ℕ) where
           let w = fed-windows (lanesIn image) (lanes-windows image (image-long a)) c (samplesOf input) (length old / 2) in
           omega (arith, pairs-long (f .state .window), ap (λ (g : Fed). length (g .state .window)) answered, lane-four (answer .lanes) w k lane-below)
 
-      clip-is : getD (answer .clips) k 0 ≡ total (f .counts .clips)
-      unfolding laneFed laneClips total
-      clip-is = sym (ap (λ (g : Fed). total (g .counts .clips)) answered)
+      clips-are : getD (allClips answer) k noClips ≡ f .counts .clips
+      unfolding laneFed
+      clips-are = each-at (laneClips answer) noClips laneLimit k lane-below ∙ sym (ap (λ (g : Fed). g .counts .clips) answered)
 
-      pub one-fed : {n : ℕ} → length left ≡ length img → n ≡ total (f .counts .clips)
-          → SomeFed left (take (k * space) out ++ (after ++ drop (k * space + space - k * space) (drop (k * space) out))) (set clips k n) (firstOf k f first) (k + 1)
-      one-fed {n} same e =
+      pub one-fed : {kept : List ℕ} → length left ≡ length img → kept ≡ set (set clips (k * 2) (f .counts .clips .high)) (k * 2 + 1) (f .counts .clips .low)
+          → SomeFed left (take (k * space) out ++ (after ++ drop (k * space + space - k * space) (drop (k * space) out))) kept (firstOf k f first) (k + 1)
+      one-fed same e =
           let m : k * space + space - k * space ≡ space = omega arith in
-          let whole = fed-clips (lanesIn image) c (samplesOf input) (length old / 2) in
+          let some-clips : List Clips = until 1 k (allClips answer) noneCounted in
+          let whole = all-clips-long a in
           let next : suc k ≡ k + 1 = omega arith in
           let z : k + 1 - 1 ≡ k = omega arith in
           record {
@@ -301,10 +322,13 @@ module _ (image : List ℕ) (c : ℕ) (input old : List ℕ) where
                 ∙ until-next space (lanesOutputFed image c input old) old k parts-fit after (some .outputs) left-is
                 ∙ ap (λ j. until space j (lanesOutputFed image c input old) old) next;
             held =
-                one-stored clips k n (omega (arith, clips-long some, lane-below))
-                ∙ until-next 1 (answer .clips) noneClipped k (omega (arith, whole, lane-below)) (n ∷ []) (some .held)
-                (one-part (answer .clips) k (omega (arith, whole, lane-below)) ∙ ap (λ x. x ∷ []) (clip-is ∙ sym e))
-                ∙ ap (λ j. until 1 j (answer .clips) noneClipped) next;
+                e ∙ ap (λ ns. set (set ns (k * 2) (f .counts .clips .high)) (k * 2 + 1) (f .counts .clips .low)) (some .held)
+                ∙ numbers-stored some-clips k (f .counts .clips) (omega (arith, clips-long some, lane-below))
+                ∙ ap (flatMap numbersOf)
+                (one-stored some-clips k (f .counts .clips) (omega (arith, clips-long some, lane-below))
+                ∙ until-next 1 (allClips answer) noneCounted k (omega (arith, whole, lane-below)) (f .counts .clips ∷ []) refl
+                (one-part (allClips answer) noClips k (omega (arith, whole, lane-below)) ∙ ap (λ x. x ∷ []) clips-are)
+                ∙ ap (λ j. until 1 j (allClips answer) noneCounted) next);
             answered-first = λ h. first-is k refl;
           }
         where
@@ -337,5 +361,5 @@ module _ (image : List ℕ) (c : ℕ) (input old : List ℕ) where
             some .outputs
             ∙ until-all space (lanesOutputFed image c input old) old c (omega (arith, old-shared a, whole))
             (drop-of-length-le old {i = c * space} (omega (arith, old-shared a)) ∙ sym (drop-of-length-le (lanesOutputFed image c input old) {i = c * space} (omega (arith, old-shared a, whole))));
-        held = some .held ∙ until-all 1 (answer .clips) noneClipped c (omega (arith, fed-clips (lanesIn image) c (samplesOf input) (length old / 2), q a .below)) (sym (clips-past a));
+        held = some .held ∙ ap (flatMap numbersOf) (until-all 1 (allClips answer) noneCounted c (omega (arith, all-clips-long a, q a .below)) (sym (clips-past a)));
       }

@@ -1,15 +1,23 @@
 -- An image of lanes that is written in parts: the image of lane 0, then the clip counts, or zeros over all that lies behind it. Assumes nothing.
-use mathlib.Core.Path.{_≡_, sym, ap, _∙_}
-use mathlib.Core.List.{List, _++_, flatMap, append-assoc, append-nil}
+use mathlib.Core.Path.{_≡_, refl, sym, ap, _∙_}
+use mathlib.Core.List.{List, [], _∷_, _++_, flatMap, append-assoc, append-nil}
 use Prim.Native.Nat.{ℕ, _+_, _-_}
 use native.Mathlib.Omega.{arith}
 use lib.ListN.{length, take, drop, replicate, length-append, length-drop}
 use lib.Seq.{take-at, take-append-add}
 use Rattle.bytes_spec.specs.Bytes.{bytesOf}
+use Rattle.kernels_spec.specs.declared.clips.Clips.{Clips}
 use Rattle.bytes_spec.proofs.LentParts.{lent, lent-length, past-lent, returned}
 use Rattle.host_spec.specs.declared.saved.Saved.{Saved}
 use Rattle.host_spec.specs.Image.{imageLength, imageOf}
-use Rattle.host_spec.specs.LaneImage.{clipsSize, laneClipsPlace, lanesLength, otherWindows, lanesImageOf}
+use Rattle.host_spec.specs.LaneImage.{countSize, laneClipsPlace, lanesLength, sidesOf, otherWindows, lanesImageOf}
+use Rattle.host_lanes.specs.LaneByLane.{numbersOf}
+
+-- the numbers of counts, each in its bytes, are the counts' bytes
+pub numbers-bytes : (ks : List Clips) → flatMap (bytesOf countSize) (flatMap numbersOf ks) ≡ flatMap sidesOf ks
+unfolding flatMap bytesOf
+numbers-bytes [] = refl
+numbers-bytes (k ∷ ks) = ap (λ z. sidesOf k ++ z) (numbers-bytes ks)
 
 module _ (first img : List ℕ) (n : length first ≡ imageLength) (l : length img ≡ lanesLength) where
   -- with the image of lane 0
@@ -26,13 +34,13 @@ module _ (first img : List ℕ) (n : length first ≡ imageLength) (l : length i
   before-counts : take laneClipsPlace begun ≡ first ++ otherWindows img
   before-counts = ap (λ k. take (k + (laneClipsPlace - imageLength)) begun) (sym n) ∙ take-append-add first (drop imageLength img) (laneClipsPlace - imageLength)
 
-  pub all-written : (v : Saved) {ws ks : List ℕ} (cs : List ℕ) → first ≡ imageOf v → otherWindows img ≡ ws → ks ≡ flatMap (bytesOf clipsSize) cs → returned laneClipsPlace begun ks ≡ lanesImageOf v ws cs
+  pub all-written : (v : Saved) {ws ks : List ℕ} (cs : List Clips) → first ≡ imageOf v → otherWindows img ≡ ws → ks ≡ flatMap sidesOf cs → returned laneClipsPlace begun ks ≡ lanesImageOf v ws cs
   unfolding lanesImageOf
   all-written v cs f w k =
       (λ t. before-counts t ++ (k t ++ past-lent laneClipsPlace begun t))
-      ∙ ap (λ z. first ++ otherWindows img ++ z) (append-nil (flatMap (bytesOf clipsSize) cs))
-      ∙ append-assoc first (otherWindows img) (flatMap (bytesOf clipsSize) cs)
-      ∙ (λ t. f t ++ (w t ++ flatMap (bytesOf clipsSize) cs))
+      ∙ ap (λ z. first ++ otherWindows img ++ z) (append-nil (flatMap sidesOf cs))
+      ∙ append-assoc first (otherWindows img) (flatMap sidesOf cs)
+      ∙ (λ t. f t ++ (w t ++ flatMap sidesOf cs))
 
   -- or all bytes behind lane 0's image are
   pub all-cleared : {zs : List ℕ} → zs ≡ replicate (length (lent imageLength begun)) 0 → returned imageLength begun zs ≡ first ++ replicate (lanesLength - imageLength) 0

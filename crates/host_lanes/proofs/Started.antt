@@ -10,13 +10,13 @@ use lib.ListN.{length, take, drop, replicate, take-append-drop}
 use lib.Seq.{length-take-le}
 use Rattle.oscillator_spec.specs.declared.settings.Setting.{Setting}
 use Rattle.bytes_spec.specs.Bytes.{bytesOf, pairsOf}
+use Rattle.kernels_spec.specs.Clips.{noClips}
 use Rattle.converter_state.specs.Start.{started}
-use Rattle.lanes_state.specs.Lanes.{windowLength, lanesOf, allSilent, startedLanes}
+use Rattle.lanes_state.specs.Lanes.{laneLimit, windowLength, lanesOf, allSilent, startedLanes}
 use Rattle.lanes_state.proofs.LaneStates.{lane-started, started-refusal}
-use Rattle.lanes_spec.specs.LaneFeeding.{noneClipped}
 use Rattle.host_spec.specs.Image.{imageLength, hasImageLength, imageOf}
 use Rattle.host_spec.specs.Host.{Reply, reply, uncounted, hostStart}
-use Rattle.host_spec.specs.LaneImage.{clipsSize, lanesLength, lanesImageOf, hasLanesLength}
+use Rattle.host_spec.specs.LaneImage.{lanesLength, sidesOf, lanesImageOf, hasLanesLength}
 use Rattle.host_spec.specs.LaneHost.{uncountedLanes, hostStartLanes}
 use Rattle.host_spec.proofs.Hosts.{start-refused, start-short, start-done}
 use Rattle.host_spec.proofs.LaneHosts.{start-lanes-refused, start-lanes-short, start-lanes-done}
@@ -27,8 +27,8 @@ by-zero true n e f g = f (eqb-true n 0 e)
 by-zero false n e f g = g (eqb-false n 0 e)
 
 -- the bytes behind lane 0's image
-zeros : pairsOf (drop windowLength allSilent) ++ flatMap (bytesOf clipsSize) noneClipped ≡ replicate (lanesLength - imageLength) 0
-unfolding allSilent flatMap bytesOf
+zeros : pairsOf (drop windowLength allSilent) ++ flatMap sidesOf (replicate laneLimit noClips) ≡ replicate (lanesLength - imageLength) 0
+unfolding allSilent flatMap bytesOf noClips
 zeros = refl
 
 module _ (image : List ℕ) (k : ℕ) (a : Setting) (p : ℕ) where

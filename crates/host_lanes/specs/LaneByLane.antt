@@ -1,9 +1,10 @@
 -- What the inner functions of the host's feed of lanes promise one another. No host call's contract cites this file, and a reader of the definitions can pass it over.
 use mathlib.Core.Path.{_≡_}
 use mathlib.Core.Bool.{true, _&&_}
-use mathlib.Core.List.{List, _++_}
+use mathlib.Core.List.{List, [], _∷_, _++_, flatMap}
 use Prim.Native.Nat.{ℕ, zero, suc, _+_, _*_, _/_, _≤_}
 use lib.ListN.{length, take, drop}
+use Rattle.kernels_spec.specs.declared.clips.Clips.{Clips}
 use Rattle.kernels_spec.specs.Clips.{total}
 use Rattle.converter_state.specs.declared.state.State.{State}
 use Rattle.converter_state.specs.Start.{stateOf}
@@ -15,7 +16,7 @@ use Rattle.lanes_state.specs.Lanes.{windowLength}
 use Rattle.lanes_spec.specs.LaneFeeding.{areParts, laneFed}
 use Rattle.host_spec.specs.Host.{isBuffer}
 use Rattle.host_spec.specs.LaneImage.{windowSize, otherWindows, isLanesImage}
-use Rattle.host_spec.specs.LaneHost.{answerIn, lanesOutputFed}
+use Rattle.host_spec.specs.LaneHost.{answerIn, allClips, lanesOutputFed}
 
 -- ---- one lane
 -- what lanes share, as s has it, with the window whose bytes begin at a place of the image
@@ -49,10 +50,14 @@ abbrev pub firstOf : ℕ → (fed first : Fed) → Fed
 firstOf zero fed first = fed
 firstOf (suc i) fed first = first
 
+-- a lane's counts as the array of counts has them: high, then low
+abbrev pub numbersOf : Clips → List ℕ
+numbersOf c = c .high ∷ c .low ∷ []
+
 -- each lane was fed: f is lane 0's answer
 pub record EachRight (image : List ℕ) (c : ℕ) (input old : List ℕ) (f : Fed) (left after clips : List ℕ) : Type 0 where
   pub answer : f ≡ laneFed (answerIn image c input old) 0
   pub counted : Counted f 65536 65536
   pub windows : otherWindows left ≡ over (windowsFed image c input old) (otherWindows image)
   pub buffer : after ≡ lanesOutputFed image c input old
-  pub held : clips ≡ answerIn image c input old .clips
+  pub held : clips ≡ flatMap numbersOf (allClips (answerIn image c input old))

@@ -2,6 +2,7 @@
 use crate::lane_image::CLIP_COUNTS_PLACE;
 use crate::lane_image::WINDOW_BYTES;
 use crate::lane_image::is_lanes_image;
+use crate::lane_image::keep_clips;
 use crate::lane_image::put_clips;
 use crate::lane_image::window_place;
 use converter_spec::Counts;
@@ -20,14 +21,13 @@ use host::shown_of;
 use host::window_at;
 use host_spec::Saved;
 use kernels::no_clips;
-use kernels::total_clips;
 use lanes::are_parts;
 ghost use mathlib.Core.Path.{_≡_};
 ghost use mathlib.Core.Bool.{true};
-ghost use Prim.Native.Nat.{_+_, _≤_};
-ghost use lib.ListN.{length, take};
+ghost use Prim.Native.Nat.{_+_, _*_, _≤_};
+ghost use lib.ListN.{length, take, replicate};
 ghost use Rattle.converter_state.specs.Start.{isState};
-ghost use Rattle.lanes_spec.specs.LaneFeeding.{noneClipped};
+ghost use Rattle.lanes_state.specs.Lanes.{laneLimit};
 ghost use Rattle.host_spec.specs.Image.{imageLength, stateIn};
 ghost use Rattle.host_spec.specs.Host.{feedReply};
 ghost use Rattle.host_spec.specs.LaneImage.{windowSize};
@@ -71,9 +71,9 @@ fn feed_each(
     count: usize,
     input: &[u8],
     output: &mut [u8],
-    clips: &mut [u32; 16],
+    clips: &mut [u32; 32],
 ) -> Fed
-    requires { ⌜ Feeding (now image) count (now input) (now output) × (s ≡ stateIn (take imageLength (now image))) × (now clips ≡ noneClipped) ⌝ }
+    requires { ⌜ Feeding (now image) count (now input) (now output) × (s ≡ stateIn (take imageLength (now image))) × (now clips ≡ replicate (laneLimit * 2) 0) ⌝ }
     ensures { λ r. ⌜ EachRight (now (image .entry)) count (now (input .entry)) (now (output .entry)) r (now (image .exit)) (now (output .exit)) (now (clips .exit)) ⌝ }
 {
     let n = input.len() / 2 / count * 2;
@@ -98,8 +98,7 @@ fn feed_each(
         let at = window_place(i);
         let fed = feed_lane(s, image, at, &input[a..e], &mut output[b..d]);
         let counts = fed.counts;
-        let held = total_clips(counts.clips) as u32;
-        clips[i] = held;
+        keep_clips(clips, i, counts.clips);
         first = first_of(i, fed, first);
         i = i + 1;
     }
@@ -114,7 +113,7 @@ fn feed_lanes(image: &mut [u8], count: usize, input: &[u8], output: &mut [u8])
 {
     let saved = decode(&image[..IMAGE_BYTES]);
     let before = saved.state;
-    let mut clips = [0u32; 16];
+    let mut clips = [0u32; 32];
     let first = feed_each(before, image, count, input, output, &mut clips);
     let state = first.state;
     let counts = first.counts;

@@ -13,8 +13,8 @@ use Rattle.oscillator_spec.specs.Word.{isWord, inRange}
 use Rattle.oscillator_spec.specs.Position.{basepoint, fraction, fourteenBits}
 use Rattle.oscillator_spec.specs.Register.{registerOf, stepped, carryOf, advanceOf}
 use Rattle.kernels_spec.specs.Kernel.{−, kernelOf}
-use Rattle.kernels_spec.specs.Clips.{noClips, oneClip, plus, total}
-use Rattle.kernels_spec.specs.Value.{column, polynomial, numerator, unit, nearestWhole, rounded, held, output, outside, clipsOf, clips, filterFraction, windowAt, outputOf, clipOf}
+use Rattle.kernels_spec.specs.Clips.{noClips, plus, total}
+use Rattle.kernels_spec.specs.Value.{column, polynomial, numerator, unit, nearestWhole, rounded, held, output, isHigh, isLow, clipsOf, clips, filterFraction, windowAt, outputOf, clipOf}
 use Rattle.converter_state.specs.Start.{stateOf, isKernel, isState, lastRead, neededAt, started}
 use Rattle.converter_spec.specs.Feeding.{advanced, taking, rule, fedOf, outputsOf}
 use Rattle.host_spec.specs.declared.saved.Saved.{Saved}
@@ -83,15 +83,22 @@ begins image h = start-done image 0 (Word (2 ^ 31)) 0 refl (eq-eqb (length image
 pub half-word : hostFeed begun (0 ∷ 0 ∷ 100 ∷ 0 ∷ 40 ∷ 0 ∷ []) (replicate 10 7) ≡ feedReply 0
     (0 ∷ 1 ∷ zeros 9 (0x80 ∷ zeros 8 (100 ∷ 0 ∷ 40 ∷ 0 ∷ 3 ∷ 0 ∷ 0 ∷ 0 ∷ 4 ∷ zeros 11 [])))
     (0 ∷ 0 ∷ 50 ∷ 0 ∷ 100 ∷ 0 ∷ 70 ∷ 0 ∷ 7 ∷ 7 ∷ [])
-unfolding numberOf bytesOf samplesOf flatMap frontOf countsOf imageOf savedOf isImage isWord basepoint fraction fourteenBits registerOf stepped carryOf advanceOf kernelOf column polynomial numerator unit nearestWhole rounded held output outside clipsOf clips filterFraction windowAt outputOf clipOf noClips oneClip plus total isKernel isState advanced taking rule fedOf outputsOf imageFed outputFed hostFeed
+unfolding numberOf bytesOf samplesOf flatMap frontOf countsOf imageOf savedOf isImage isWord basepoint fraction fourteenBits registerOf stepped carryOf advanceOf kernelOf column polynomial numerator unit nearestWhole rounded held output isHigh isLow clipsOf clips filterFraction windowAt outputOf clipOf noClips plus total isKernel isState advanced taking rule fedOf outputsOf imageFed outputFed hostFeed
 half-word = refl
 
 -- with space for one output it ends FULL, before the third sample: none is needed, at the register of 1/2; 2 taken, 1 written
 pub one-output : hostFeed begun (0 ∷ 0 ∷ 100 ∷ 0 ∷ 40 ∷ 0 ∷ []) (7 ∷ 7 ∷ []) ≡ feedReply 0
     (0 ∷ 0 ∷ zeros 5 (0x80 ∷ 0 ∷ 0 ∷ 0 ∷ 0x80 ∷ zeros 10 (100 ∷ 0 ∷ 2 ∷ 0 ∷ 0 ∷ 0 ∷ 1 ∷ zeros 7 (1 ∷ 0 ∷ 0 ∷ 0 ∷ []))))
     (0 ∷ 0 ∷ [])
-unfolding numberOf bytesOf samplesOf flatMap frontOf countsOf imageOf savedOf isImage isWord basepoint fraction fourteenBits registerOf stepped carryOf advanceOf kernelOf column polynomial numerator unit nearestWhole rounded held output outside clipsOf clips filterFraction windowAt outputOf clipOf noClips oneClip plus total isKernel isState advanced taking rule fedOf outputsOf imageFed outputFed hostFeed
+unfolding numberOf bytesOf samplesOf flatMap frontOf countsOf imageOf savedOf isImage isWord basepoint fraction fourteenBits registerOf stepped carryOf advanceOf kernelOf column polynomial numerator unit nearestWhole rounded held output isHigh isLow clipsOf clips filterFraction windowAt outputOf clipOf noClips plus total isKernel isState advanced taking rule fedOf outputsOf imageFed outputFed hostFeed
 one-output = refl
+
+-- the cubic halfway between samples, by two samples from output to output: the first is held at 32767, the second at −32768. The image carries 2 clips, of which one is high and one low
+pub both-sides : hostFeed (3 ∷ 1 ∷ zeros 5 (0x80 ∷ zeros 4 (2 ∷ zeros 6 (0x80 ∷ 0xFF ∷ 0x7F ∷ 0xFF ∷ 0x7F ∷ zeros 16 [])))) (0 ∷ 0x80 ∷ 0 ∷ 0x80 ∷ 0xFF ∷ 0x7F ∷ []) (replicate 4 7) ≡ feedReply 0
+    (3 ∷ 2 ∷ zeros 5 (0x80 ∷ zeros 4 (2 ∷ zeros 3 (0xFF ∷ 0x7F ∷ 0 ∷ 0x80 ∷ 0 ∷ 0x80 ∷ 0xFF ∷ 0x7F ∷ 3 ∷ zeros 3 (2 ∷ zeros 3 (2 ∷ zeros 7 []))))))
+    (0xFF ∷ 0x7F ∷ 0 ∷ 0x80 ∷ [])
+unfolding numberOf bytesOf samplesOf flatMap frontOf countsOf imageOf savedOf isImage isWord basepoint fraction fourteenBits registerOf stepped carryOf advanceOf kernelOf column polynomial numerator unit nearestWhole rounded held output isHigh isLow clipsOf clips filterFraction windowAt outputOf clipOf noClips plus total isKernel isState advanced taking rule fedOf outputsOf imageFed outputFed hostFeed
+both-sides = refl
 
 -- ---- refusals of a feed
 -- byte 3 is not zero: 5, whatever the buffers are, odd ones too

@@ -3,22 +3,27 @@
 use mathlib.Core.Path.{_≡_, refl, ap, subst, _∙_}
 use mathlib.Core.Bool.{true, _&&_}
 use mathlib.Core.List.{List, [], _∷_, map}
-use Prim.Native.Nat.{ℕ, _^_, _<_}
+use Prim.Native.Nat.{ℕ, _+_, _^_, _<_}
 use lib.IntN.{ℤ}
 use lib.ListN.{length}
 use Rattle.oscillator_spec.specs.declared.settings.Setting.{Setting}
 use Rattle.converter_state.specs.declared.state.State.{State}
 use Rattle.converter_spec.specs.declared.feeding.Fed.{Fed}
 use Rattle.converter_state.specs.Start.{started}
-use Rattle.converter_spec.specs.Feeding.{FedRight}
+use Rattle.converter_spec.specs.Feeding.{fedOf, FedRight}
 use Rattle.converter_spec.specs.Paper.{begin}
 use Rattle.converter_spec.specs.Demand.{Call, Seen, Agrees}
 use Rattle.converter_spec.specs.Demand as state
-use Rattle.bytes_spec.specs.Bytes.{Bytes, samplesOf}
-use Rattle.host_spec.specs.Image.{savedOf, stateIn, isImage}
+use Rattle.bytes_spec.specs.Bytes.{Bytes, numberAt, samplesOf}
+use Rattle.bytes_spec.proofs.Samples.{samples-long}
+use Rattle.kernels_spec.specs.Clips.{total}
+use Rattle.host_spec.specs.declared.saved.Saved.{Saved}
+use Rattle.host_spec.specs.Image.{clipsPlace, savedOf, stateIn, isImage}
 use Rattle.host_spec.specs.Host.{FeedReply, savedBy, hostStart, hostRetune, isBuffer, hostFeed}
 use Rattle.host_spec.specs.Calls.{HostCall, HostMeets, imageAfter, SeenOn, madeOf, Shows}
 use Rattle.host_spec.specs.Calls as host
+use Rattle.host_spec.specs.LaneImage.{countSize}
+use Rattle.host_spec.specs.HostSides.{clipsFed}
 use Rattle.host_spec.proofs.ShownCalls.{on-the-state, host-third}
 
 -- a host call's arguments, and what the language knows of them
@@ -126,3 +131,11 @@ module _ (input old : List ℕ) (fits : isBuffer (length input) && isBuffer (len
         let t = host-third image k a P l z (fed from ∷ []) (one from) in
         let r = read-off (hostFeed from input old) (t .0 .calls) (t .0 .seen) (t .0 .shows) in
         (r .0, subst (Agrees (begin k a P)) (r .1) (t .1))
+
+    -- request U5, "The E line and the saved state carry their sum": the four bytes of the clips in an image that is left read as high and low of the feed's counts together
+    pub image-sum : (image : List ℕ) → Bytes image → isImage image ≡ true → let c = clipsFed image input old in
+        numberAt clipsPlace countSize (hostFeed image input old .image) ≡ c .high + c .low
+    unfolding savedOf total
+    image-sum image h i =
+        let t = one-on-the-state image h i in
+        ap (λ (v : Saved). v .shown .clips) (t .saved) ∙ ap (λ (f : Fed). total (f .counts .clips)) (t .right .answer ∙ ap (fedOf (stateIn image) (samplesOf input)) (samples-long old))

@@ -10,8 +10,8 @@ use Rattle.oscillator_spec.specs.Word.{isWord, inRange}
 use Rattle.oscillator_spec.specs.Position.{basepoint, fraction, fourteenBits}
 use Rattle.oscillator_spec.specs.Register.{registerOf, stepped, carryOf, advanceOf}
 use Rattle.kernels_spec.specs.Kernel.{kernelOf}
-use Rattle.kernels_spec.specs.Clips.{noClips, oneClip, plus, total}
-use Rattle.kernels_spec.specs.Value.{column, polynomial, numerator, unit, nearestWhole, rounded, held, output, outside, clipsOf, clips, filterFraction, windowAt, outputOf, clipOf}
+use Rattle.kernels_spec.specs.Clips.{noClips, plus, total}
+use Rattle.kernels_spec.specs.Value.{column, polynomial, numerator, unit, nearestWhole, rounded, held, output, isHigh, isLow, clipsOf, clips, filterFraction, windowAt, outputOf, clipOf}
 use Rattle.converter_spec.specs.Feeding.{advanced, taking, rule, fedOf, outputsOf}
 use Rattle.bytes_spec.specs.Bytes.{numberOf, bytesOf, samplesOf}
 use Rattle.converter_state.specs.Start.{isKernel, isState, lastRead, neededAt, started}
@@ -24,14 +24,14 @@ use Rattle.host_spec.specs.LaneImage.{laneClipsPlace, lanesLength, lanes
 use Rattle.host_spec.specs.LaneHost.{uncountedLanes, hostStartLanes, lanesImageFed, lanesOutputFed, hostFeedLanes}
 use Rattle.host_spec.proofs.LaneHosts.{start-lanes-short, start-lanes-done}
 
--- ---- the layout: lane 0's window where one converter has it, those of lanes 1 to 15 from byte 40 on, the clip counts from byte 160 on
-pub lane-places : (laneWindowPlace 0 ≡ 16) × (laneWindowPlace 1 ≡ 40) × (laneWindowPlace 15 ≡ 152) × (laneClipsPlace ≡ 160) × (lanesLength ≡ 224)
+-- ---- the layout: lane 0's window where one converter has it, those of lanes 1 to 15 from byte 40 on, the clip counts from byte 160 on, eight bytes a lane
+pub lane-places : (laneWindowPlace 0 ≡ 16) × (laneWindowPlace 1 ≡ 40) × (laneWindowPlace 15 ≡ 152) × (laneClipsPlace ≡ 160) × (lanesLength ≡ 288)
 lane-places = (refl, refl, refl, refl, refl)
 
 -- ---- start
 -- kernel 0 with a half word: two samples are needed; the word; and all else is zeros
 abbrev begun : List ℕ
-begun = 0 ∷ 2 ∷ replicate 9 0 ++ 0x80 ∷ replicate 212 0
+begun = 0 ∷ 2 ∷ replicate 9 0 ++ 0x80 ∷ replicate 276 0
 
 pub lanes-begin : (image : List ℕ) → length image ≡ lanesLength → hostStartLanes image 0 (Word (2 ^ 31)) 0 ≡ reply 0 begun
 unfolding uncountedLanes lanesImageOf bytesOf flatMap frontOf countsOf imageOf isWord inRange basepoint kernelOf isKernel lastRead neededAt started noClips total startedLanes lanesOf laneOf allSilent
@@ -49,7 +49,7 @@ fourth-kernel image a p = refl
 -- ---- the order of the refusals of a feed: 5, 12, 13
 -- byte 3 is not zero: 5, with odd buffers and no lanes too
 abbrev reserved : List ℕ
-reserved = 0 ∷ 2 ∷ 0 ∷ 1 ∷ replicate 7 0 ++ 0x80 ∷ replicate 212 0
+reserved = 0 ∷ 2 ∷ 0 ∷ 1 ∷ replicate 7 0 ++ 0x80 ∷ replicate 276 0
 
 pub five-first : (output : List ℕ) → hostFeedLanes reserved 0 (1 ∷ []) output ≡ feedReply 5 reserved output
 unfolding hostFeedLanes isLanesImage isImage numberOf
@@ -68,7 +68,18 @@ thirteen-last = (refl, refl, refl)
 
 -- ---- two lanes fed: the samples 0, 100 and 10, 20, with two places each, of which all are written: 0, 50 and 10, 15
 pub two-fed : hostFeedLanes begun 2 (0 ∷ 0 ∷ 100 ∷ 0 ∷ 10 ∷ 0 ∷ 20 ∷ 0 ∷ []) (replicate 8 7) ≡ feedReply 0
-    (0 ∷ 1 ∷ replicate 9 0 ++ 0x80 ∷ replicate 10 0 ++ 100 ∷ 0 ∷ 2 ∷ 0 ∷ 0 ∷ 0 ∷ 2 ∷ replicate 15 0 ++ 10 ∷ 0 ∷ 20 ∷ replicate 177 0)
+    (0 ∷ 1 ∷ replicate 9 0 ++ 0x80 ∷ replicate 10 0 ++ 100 ∷ 0 ∷ 2 ∷ 0 ∷ 0 ∷ 0 ∷ 2 ∷ replicate 15 0 ++ 10 ∷ 0 ∷ 20 ∷ replicate 241 0)
     (0 ∷ 0 ∷ 50 ∷ 0 ∷ 10 ∷ 0 ∷ 15 ∷ 0 ∷ [])
-unfolding hostFeedLanes lanesImageFed lanesOutputFed lanesImageOf lanesIn isLanesImage isImage numberOf bytesOf samplesOf flatMap frontOf countsOf imageOf savedOf isWord inRange basepoint fraction fourteenBits registerOf stepped carryOf advanceOf kernelOf column polynomial numerator unit nearestWhole rounded held output outside clipsOf clips filterFraction windowAt outputOf clipOf noClips oneClip plus total isKernel isState advanced taking rule fedOf outputsOf fedLanesOf acceptedLanes fedLane laneFed laneClips isLanes laneOf lanesOf areParts each
+unfolding hostFeedLanes lanesImageFed lanesOutputFed lanesImageOf lanesIn isLanesImage isImage numberOf bytesOf samplesOf flatMap frontOf countsOf imageOf savedOf isWord inRange basepoint fraction fourteenBits registerOf stepped carryOf advanceOf kernelOf column polynomial numerator unit nearestWhole rounded held output isHigh isLow clipsOf clips filterFraction windowAt outputOf clipOf noClips plus total isKernel isState advanced taking rule fedOf outputsOf fedLanesOf acceptedLanes fedLane laneFed laneClips isLanes laneOf lanesOf areParts each
 two-fed = refl
+
+-- ---- two lanes that clip, the cubic halfway between samples: lane 0 is held at 32767, lane 1 at −32768. A lane's counts are high (4 bytes), then low (4): lane 0's from byte 160 on, lane
+-- 1's from byte 168 on
+pub two-sides : hostFeedLanes
+    (3 ∷ 1 ∷ replicate 5 0 ++ 0x80 ∷ replicate 4 0 ++ 1 ∷ replicate 6 0 ++ 0x80 ∷ 0xFF ∷ 0x7F ∷ 0xFF ∷ 0x7F ∷ replicate 18 0 ++ 0xFF ∷ 0x7F ∷ 0 ∷ 0x80 ∷ 0 ∷ 0x80 ∷ replicate 240 0)
+    2 (0 ∷ 0x80 ∷ 0xFF ∷ 0x7F ∷ []) (replicate 4 7) ≡ feedReply 0
+    (3 ∷ 1 ∷ replicate 5 0 ++ 0x80 ∷ replicate 4 0 ++ 1 ∷ replicate 4 0 ++ 0x80 ∷ 0xFF ∷ 0x7F ∷ 0xFF ∷ 0x7F ∷ 0 ∷ 0x80 ∷ 1 ∷ 0 ∷ 0 ∷ 0 ∷ 1 ∷ 0 ∷ 0 ∷ 0 ∷ 1 ∷ replicate 7 0
+    ++ 0xFF ∷ 0x7F ∷ 0 ∷ 0x80 ∷ 0 ∷ 0x80 ∷ 0xFF ∷ 0x7F ∷ replicate 112 0 ++ 1 ∷ replicate 11 0 ++ 1 ∷ replicate 115 0)
+    (0xFF ∷ 0x7F ∷ 0 ∷ 0x80 ∷ [])
+unfolding hostFeedLanes lanesImageFed lanesOutputFed lanesImageOf lanesIn isLanesImage isImage numberOf bytesOf samplesOf flatMap frontOf countsOf imageOf savedOf isWord inRange basepoint fraction fourteenBits registerOf stepped carryOf advanceOf kernelOf column polynomial numerator unit nearestWhole rounded held output isHigh isLow clipsOf clips filterFraction windowAt outputOf clipOf noClips plus total isKernel isState advanced taking rule fedOf outputsOf fedLanesOf acceptedLanes fedLane laneFed laneClips isLanes laneOf lanesOf areParts each
+two-sides = refl

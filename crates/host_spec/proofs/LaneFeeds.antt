@@ -1,37 +1,40 @@
 -- A feed of an image of lanes is a feed of the image of each lane: to the last byte what as many single feeds do. Assumes nothing.
-use mathlib.Core.Path.{_≡_, sym, ap, _∙_}
+use mathlib.Core.Path.{_≡_, refl, sym, ap, _∙_}
 use mathlib.Core.Bool.{true, _&&_}
-use mathlib.Core.List.{List, [], _++_, append-nil}
-use Prim.Native.Nat.{ℕ, suc, _+_, _-_, _*_, _/_, _%_, _≤_, _<_}
+use mathlib.Core.Logic.{⊎-elim}
+use mathlib.Core.List.{List, [], _∷_, _++_, append-nil}
+use Prim.Native.Nat.{ℕ, zero, suc, _+_, _-_, _*_, _/_, _%_, _^_, _≤_, _<_}
 use native.Mathlib.Omega.{arith}
 use native.Mathlib.Nat.{mul-div-right, div-le-self}
 use lib.IntN.{ℤ}
-use lib.ListN.{length, take, drop, getD, length-append, length-drop}
-use lib.Seq.{length-take-le, drop-drop}
+use lib.ListN.{length, take, drop, getD, length-append, length-drop, List·getD-append}
+use lib.Seq.{length-take-le, drop-drop, getD-at}
 use Rattle.integers.specs.Table.{both}
-use Rattle.bytes_spec.specs.Bytes.{bytesOf, samplesOf, pairsOf}
+use Rattle.bytes_spec.specs.Bytes.{samplesOf, pairsOf}
 use Rattle.bytes_spec.specs.Overwritten.{over}
 use Rattle.bytes_spec.proofs.Samples.{samples-long, samples-part, pairs-long}
 use Rattle.bytes_spec.proofs.Overwriting.{over-behind, over-long}
-use Rattle.kernels_spec.specs.declared.clips.Clips.{Clips}
 use Rattle.kernels_spec.specs.Clips.{noClips, total}
+use Rattle.kernels_spec.proofs.Counting.{total-none}
 use Rattle.converter_spec.specs.declared.feeding.Fed.{Fed}
 use Rattle.converter_spec.specs.Feeding.{fedOf, outputsOf}
-use Rattle.converter_spec.proofs.Feeds.{fed-sizes}
+use Rattle.converter_spec.proofs.Runs.{rule-ending, ending-sizes, rule-clips}
+use Rattle.converter_spec.proofs.Feeds.{fed-rule, fed-sizes}
 use Rattle.lanes_state.specs.declared.lanes.Lanes.{Lanes}
 use Rattle.lanes_state.specs.Parts.{part, lanePart, each}
 use Rattle.lanes_state.specs.Lanes.{laneLimit, windowLength, laneOf, lanesOf}
-use Rattle.lanes_state.proofs.Parts.{within-front, within-taken, each-length, part-each}
+use Rattle.lanes_state.proofs.Parts.{below, within-front, within-taken, each-length, part-each}
+use Rattle.lanes_state.proofs.LaneStates.{every-lane}
 use Rattle.lanes_spec.specs.declared.feeding.FedLanes.{FedLanes}
 use Rattle.lanes_spec.specs.LaneFeeding.{laneClips, laneOutputs, areParts, fedLanesOf, laneFed, HasWindows}
-use Rattle.lanes_spec.proofs.LanesAlone.{Parted, parts-are, share-length, lane-four, alone, fed-windows, fed-clips}
+use Rattle.lanes_spec.proofs.LanesAlone.{Parted, parts-are, share-length, lane-four, alone, fed-windows}
 use Rattle.host_spec.specs.declared.saved.Shown.{Shown}
 use Rattle.host_spec.specs.Image.{imageLength, imageOf, windowBytes, stateIn}
 use Rattle.host_spec.specs.Host.{shownOf, isBuffer, feedReply, savedBy, imageFed, outputFed, hostFeed}
-use Rattle.host_spec.specs.LaneImage.{windowSize, clipsSize, laneClipsPlace, lanesLength, otherWindows, lanesIn, isLanesImage, laneWindowPlace, laneImage}
-use Rattle.host_spec.specs.LaneHost.{answerIn, lanesImageFed, lanesOutputFed}
+use Rattle.host_spec.specs.LaneImage.{windowSize, laneClipsPlace, lanesLength, otherWindows, lanesIn, sidesIn, isLanesImage, laneWindowPlace, laneImage}
+use Rattle.host_spec.specs.LaneHost.{answerIn, allClips, lanesImageFed, lanesOutputFed}
 use Rattle.host_spec.proofs.Hosts.{buffer-is, is-buffer, feed-done}
-use Rattle.host_spec.proofs.LaneImages.{is-lanes-image, parts-long, lane-image-state, lane-image-is, first-lane, Sized, HaveWindows, others-window, lane-written, written-first, written-other, written-clips, written-length}
+use Rattle.host_spec.proofs.LaneImages.{is-lanes-image, lanes-in, parts-long, lane-image-state, lane-image-is, first-lane, Sized, HaveWindows, others-window, withClips, lane-written, written-first, written-other, written-sides, written-length}
 
 -- ---- an even number of bytes, whose samples c lanes share
 module _ (c n : ℕ) (a : 1 ≤ c) (e : n % 2 ≡ 0) (s : n / 2 ≡ c * (n / 2 / c)) where
@@ -75,6 +78,18 @@ lanes-windows bs h =
     let l = parts-long bs h in
     omega (arith, samples-long (windowBytes bs ++ otherWindows bs), length-append (windowBytes bs) (otherWindows bs), l .window, l .windows)
 
+-- ---- single entries, one after another
+pub each-at : {A : Type 0} (f : ℕ → A) (d : A) (c i : ℕ) → i < c → getD (each (λ j. f j ∷ []) c) i d ≡ f i
+unfolding each
+each-at f d zero i h = absurd (omega arith)
+each-at f d (suc c) i h =
+    let xs = each (λ j. f j ∷ []) c in
+    let n = each-length (λ j. f j ∷ []) 1 c (λ j k. refl) in
+    ⊎-elim
+    (λ k. List·getD-append xs (f c ∷ []) d i (omega (arith, n, k)) ∙ each-at f d c i k)
+    (λ k. let e : i ≡ c = omega (arith, h, k) in getD-at xs (f c) [] d i (omega (arith, n, e)) ∙ ap f (sym e))
+    (below i c)
+
 -- ---- a feed of lanes that is accepted
 module _ (image : List ℕ) (g : isLanesImage image ≡ true) (c : ℕ) (input old : List ℕ) (b : isBuffer (length input) && isBuffer (length old) ≡ true)
     (p : areParts c (length input / 2) (length old / 2) ≡ true) where
@@ -117,6 +132,22 @@ module _ (image : List ℕ) (g : isLanesImage image ≡ true) (c : ℕ) (input o
   answer-kept i h =
       ap (λ n. part windowLength i (fedLanesOf lanes c (samplesOf input) n .lanes .windows)) (sym (samples-long old)) ∙ alone lanes windows c (samplesOf input) (samplesOf old) parted .kept i h
 
+  pub answer-silent : (i : ℕ) → c ≤ i → laneClips answer i ≡ noClips
+  answer-silent i h =
+      ap (λ n. laneClips (fedLanesOf lanes c (samplesOf input) n) i) (sym (samples-long old)) ∙ alone lanes windows c (samplesOf input) (samplesOf old) parted .silent i h
+
+  -- every lane's counts have room in their bytes
+  few-clips : (i : ℕ) → total (laneClips answer i) < 2 ^ 32
+  unfolding laneFed
+  few-clips i = ⊎-elim fed-few (λ h. omega (arith, ap total (answer-silent i h), total-none)) (below i c)
+    where
+      fed-few : i < c → total (laneClips answer i) < 2 ^ 32
+      fed-few h =
+          let s = laneOf lanes i in
+          let xs : List ℤ = lanePart c i (samplesOf input) in
+          let e = ap (λ (f : Fed). total (f .counts .clips)) (lane-answer i h ∙ fed-rule s (every-lane lanes i ∙ lanes-in image g) xs space .0) in
+          omega (arith, e, rule-clips xs space s, ending-sizes (rule-ending xs space s) .1, div-le-self (length old / 2) c, old-even .1)
+
   -- its window among those that are written
   fed-long : HasWindows (answer .lanes)
   fed-long = fed-windows lanes windows c (samplesOf input) (length old / 2)
@@ -138,21 +169,35 @@ module _ (image : List ℕ) (g : isLanesImage image ≡ true) (c : ℕ) (input o
   abbrev shown : Shown
   shown = shownOf (laneFed answer 0 .counts)
 
-  sized : Sized (savedBy (laneFed answer 0)) (over (pairsOf fed-samples) (otherWindows image)) (answer .clips)
+  sized : Sized (savedBy (laneFed answer 0)) (over (pairsOf fed-samples) (otherWindows image)) (allClips answer)
   unfolding laneFed
   sized = record {
     four = lane-four (answer .lanes) fed-long 0 (omega arith);
     windows = over-long (pairsOf fed-samples) (otherWindows image) (omega (arith, pairs-long fed-samples, fed-samples-long, q .below, parts-long image long .windows)) ∙ parts-long image long .windows;
-    counts = fed-clips lanes c (samplesOf input) (length old / 2);
+    counts = each-length (λ i. laneClips answer i ∷ []) 1 laneLimit (λ i k. refl);
   }
 
   pub fed-image-long : length (lanesImageFed image c input old) ≡ lanesLength
   unfolding lanesImageFed
-  fed-image-long = written-length (savedBy (laneFed answer 0)) (over (pairsOf fed-samples) (otherWindows image)) (answer .clips) sized
+  fed-image-long = written-length (savedBy (laneFed answer 0)) (over (pairsOf fed-samples) (otherWindows image)) (allClips answer) sized
+
+  -- the clip counts of lane i among those that are written
+  clips-at : (i : ℕ) → i < laneLimit → getD (allClips answer) i noClips ≡ laneClips answer i
+  clips-at i h = each-at (laneClips answer) noClips laneLimit i h
+
+  few-at : (i : ℕ) → i < laneLimit → total (getD (allClips answer) i noClips) < 2 ^ 32
+  few-at i h = omega (arith, ap total (clips-at i h), few-clips i)
 
   pub lane-fed-image : (i : ℕ) → i < c → laneImage i (lanesImageFed image c input old) ≡ imageOf (savedBy (laneFed answer i))
-  unfolding lanesImageFed laneFed laneClips total
-  lane-fed-image i h = lane-written (answer .lanes) shown (over (pairsOf fed-samples) (otherWindows image)) (answer .clips) sized c (q .below) have-windows i h
+  unfolding lanesImageFed laneFed
+  lane-fed-image i h =
+      let m : i < laneLimit = omega (arith, h, q .below) in
+      lane-written (answer .lanes) shown (over (pairsOf fed-samples) (otherWindows image)) (allClips answer) sized c (q .below) have-windows i h (few-at i m)
+      ∙ ap (λ k. imageOf (record { state = laneOf (answer .lanes) i; shown = withClips shown (total k) })) (clips-at i m)
+
+  sides-fed : (i : ℕ) → i < laneLimit → sidesIn i (lanesImageFed image c input old) ≡ laneClips answer i
+  unfolding lanesImageFed
+  sides-fed i h = written-sides (savedBy (laneFed answer 0)) (over (pairsOf fed-samples) (otherWindows image)) (allClips answer) sized i h (few-at i h) ∙ clips-at i h
 
   -- lane i's part of the output buffer
   abbrev leaves : ℕ → List ℕ
@@ -191,6 +236,11 @@ module _ (image : List ℕ) (g : isLanesImage image ≡ true) (c : ℕ) (input o
     pub lane-fed-answer : fedOf (stateIn (laneImage i image)) (samplesOf (lanePart c i input)) (length (lanePart c i old) / 2) ≡ laneFed answer i
     lane-fed-answer = (λ t. fedOf (state-in t) (samples-in t) (space-in t)) ∙ sym (lane-answer i h)
 
+    -- the image shows the clip counts of that feed, high and low
+    pub lane-sides : sidesIn i (lanesImageFed image c input old) ≡ fedOf (stateIn (laneImage i image)) (samplesOf (lanePart c i input)) (length (lanePart c i old) / 2) .counts .clips
+    unfolding laneFed
+    lane-sides = sides-fed i (omega (arith, h, q .below)) ∙ sym (ap (λ (f : Fed). f .counts .clips) lane-fed-answer)
+
     pub image-fed : laneImage i (lanesImageFed image c input old) ≡ imageFed (laneImage i image) (lanePart c i input) (lanePart c i old)
     unfolding imageFed
     image-fed = lane-fed-image i h ∙ ap (λ (f : Fed). imageOf (savedBy f)) (sym lane-fed-answer)
@@ -205,28 +255,24 @@ module _ (image : List ℕ) (g : isLanesImage image ≡ true) (c : ℕ) (input o
         feed-done (laneImage i image) (lanePart c i input) (lanePart c i old) (lane-image-is image g i (omega (arith, h, q .below))) (shares-fit c input old b p i h)
         ∙ sym (λ t. feedReply 0 (image-fed t) (output-fed t))
 
-  -- ---- a lane past the count: its window's bytes stay, and its clip count is 0
+  -- ---- a lane past the count: its window's bytes stay, and its clip counts are 0
   pub past-window : (j : ℕ) → c ≤ suc j → suc j < laneLimit → take windowSize (drop (laneWindowPlace (suc j)) (lanesImageFed image c input old)) ≡ take windowSize (drop (laneWindowPlace (suc j)) image)
   unfolding lanesImageFed
   past-window j h m =
       let l = parts-long image long in
-      written-other (savedBy (laneFed answer 0)) (over (pairsOf fed-samples) (otherWindows image)) (answer .clips) sized j m
+      written-other (savedBy (laneFed answer 0)) (over (pairsOf fed-samples) (otherWindows image)) (allClips answer) sized j m
       ∙ ap (take windowSize) (over-behind (pairsOf fed-samples) (otherWindows image) (j * windowSize) (omega (arith, h, pairs-long fed-samples, fed-samples-long)))
       ∙ within-taken (drop imageLength image) (laneClipsPlace - imageLength) (j * windowSize) windowSize (omega (arith, m)) (omega (arith, long, length-drop imageLength image))
       ∙ ap (take windowSize) (drop-drop (j * windowSize) imageLength image)
 
-  pub past-clips : (i : ℕ) → c ≤ i → i < laneLimit → take clipsSize (drop (laneClipsPlace + i * clipsSize) (lanesImageFed image c input old)) ≡ bytesOf clipsSize 0
-  unfolding lanesImageFed laneClips noClips
-  past-clips i h m =
-      let none = alone lanes windows c (samplesOf input) (samplesOf old) parted .silent i h in
-      written-clips (savedBy (laneFed answer 0)) (over (pairsOf fed-samples) (otherWindows image)) (answer .clips) sized i m
-      ∙ ap (bytesOf clipsSize) (ap (λ n. getD (fedLanesOf lanes c (samplesOf input) n .clips) i 0) (sym (samples-long old)) ∙ ap (λ (k : Clips). k .held) none)
+  pub past-sides : (i : ℕ) → c ≤ i → i < laneLimit → sidesIn i (lanesImageFed image c input old) ≡ noClips
+  past-sides i h m = sides-fed i m ∙ answer-silent i h
 
   -- the first 40 bytes are what a single feed of the first 40 bytes leaves, over lane 0's parts
   pub first-fed : take imageLength (lanesImageFed image c input old) ≡ imageFed (take imageLength image) (lanePart c 0 input) (lanePart c 0 old)
   unfolding lanesImageFed imageFed
   first-fed =
       let h : 0 < c = q .above in
-      written-first (savedBy (laneFed answer 0)) (over (pairsOf fed-samples) (otherWindows image)) (answer .clips) sized
+      written-first (savedBy (laneFed answer 0)) (over (pairsOf fed-samples) (otherWindows image)) (allClips answer) sized
       ∙ ap (λ (f : Fed). imageOf (savedBy f)) (lane-answer 0 h)
       ∙ (λ t. imageOf (savedBy (fedOf (first-lane image long t) (sym (samples-in 0 h) t) (sym (space-in 0 h) t))))

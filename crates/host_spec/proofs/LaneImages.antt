@@ -2,7 +2,7 @@
 use mathlib.Core.Path.{_≡_, refl, sym, ap, _∙_}
 use mathlib.Core.Bool.{true}
 use mathlib.Core.List.{List, [], _∷_, _++_, flatMap, append-assoc}
-use Prim.Native.Nat.{ℕ, zero, suc, _+_, _-_, _*_, _≤_, _<_}
+use Prim.Native.Nat.{ℕ, zero, suc, _+_, _-_, _*_, _^_, _≤_, _<_}
 use native.Mathlib.Omega.{arith}
 use borrow.Author.Tests.{eqb-true, eq-eqb}
 use lib.IntN.{ℤ}
@@ -10,7 +10,11 @@ use lib.ListN.{length, take, drop, getD, length-append, length-drop, take-append
 use lib.Seq.{length-take-le, take-at, drop-at, drop-drop, take-add, take-append-le, drop-append-le}
 use Rattle.integers.specs.Table.{both}
 use Rattle.bytes_spec.specs.Bytes.{numberAt, numberOf, bytesOf, samplesOf, pairsOf}
+use Rattle.bytes_spec.proofs.ByteNumbers.{bytes-long, number-bytes}
 use Rattle.bytes_spec.proofs.Samples.{samples-part, pairs-long, pairs-part}
+use Rattle.kernels_spec.specs.declared.clips.Clips.{Clips}
+use Rattle.kernels_spec.specs.Clips.{clipCounts, noClips, total}
+use Rattle.kernels_spec.proofs.Counting.{high-most, low-most}
 use Rattle.converter_state.specs.declared.state.State.{State}
 use Rattle.converter_state.specs.Start.{stateOf, isState}
 use Rattle.lanes_state.specs.declared.lanes.Lanes.{Lanes}
@@ -21,12 +25,12 @@ use Rattle.lanes_state.proofs.LaneStates.{every-lane}
 use Rattle.host_spec.specs.declared.saved.Saved.{Saved}
 use Rattle.host_spec.specs.declared.saved.Shown.{Shown}
 use Rattle.host_spec.specs.Image.{kernelPlace, neededPlace, zerosPlace, registerPlace, wordPlace, windowPlace, countsPlace, takenPlace, clipsPlace, endPlace, imageLength, frontOf, countsOf, imageOf, windowBytes, savedOf, stateIn, isImage}
-use Rattle.host_spec.specs.LaneImage.{windowSize, clipsSize, laneClipsPlace, lanesLength, lanesImageOf, otherWindows, lanesIn, hasLanesLength, isLanesImage, laneWindowPlace, laneImage}
+use Rattle.host_spec.specs.LaneImage.{windowSize, countSize, clipsSize, laneClipsPlace, lanesLength, sidesOf, lanesImageOf, otherWindows, lanesIn, sidesAt, sidesIn, hasLanesLength, isLanesImage, laneWindowPlace, laneImage}
 use Rattle.host_spec.proofs.Images.{is-image, image-is, image-long}
 
 -- ---- its length
-pub lanes-224 : lanesLength ≡ 224
-lanes-224 = refl
+pub lanes-288 : lanesLength ≡ 288
+lanes-288 = refl
 
 -- ---- refusal 5
 pub is-lanes-image : (bs : List ℕ) → isLanesImage bs ≡ true → (length bs ≡ lanesLength) × (isImage (take imageLength bs) ≡ true)
@@ -51,6 +55,13 @@ pub record Long (f p c w k : List ℕ) : Type 0 where
 -- the same of one lane's image
 abbrev pub oneInParts : List ℕ → List ℕ → List ℕ → List ℕ → List ℕ
 oneInParts f p c k = f ++ (p ++ (take (clipsPlace - takenPlace) c ++ (k ++ drop (endPlace - countsPlace) c)))
+
+-- two counts behind a place
+sides-behind : (a b : ℕ) (bs : List ℕ) → sidesAt (a + b) bs ≡ sidesAt b (drop a bs)
+sides-behind a b bs =
+    let number : (n : ℕ) → numberAt (a + n) countSize bs ≡ numberAt n countSize (drop a bs) = λ n. ap (λ z. numberOf (take countSize z)) (sym (drop-drop n a bs)) in
+    let e : a + b + countSize ≡ a + (b + countSize) = omega arith in
+    λ t. clipCounts (number b t) ((ap (λ n. numberAt n countSize bs) e ∙ number (b + countSize)) t)
 
 module _ (f p c w k : List ℕ) (l : Long f p c w k) where
   abbrev whole : List ℕ
@@ -92,8 +103,8 @@ module _ (f p c w k : List ℕ) (l : Long f p c w k) where
       ap (drop endPlace) first-part ∙ ap (drop endPlace) (sym (append-assoc f p c)) ∙ sym (drop-drop (endPlace - countsPlace) countsPlace ((f ++ p) ++ c))
       ∙ ap (drop (endPlace - countsPlace)) (drop-at (f ++ p) c countsPlace (omega (arith, length-append f p, l .front, l .window)))
 
-  clip-part : (i : ℕ) → take clipsSize (drop (laneClipsPlace + i * clipsSize) whole) ≡ take clipsSize (drop (i * clipsSize) k)
-  clip-part i = ap (take clipsSize) (sym (drop-drop (i * clipsSize) laneClipsPlace whole) ∙ ap (drop (i * clipsSize)) from-clips)
+  sides-part : (i : ℕ) → sidesIn i whole ≡ sidesAt (i * clipsSize) k
+  sides-part i = sides-behind laneClipsPlace (i * clipsSize) whole ∙ ap (sidesAt (i * clipsSize)) from-clips
 
   pub other-part : (i : ℕ) → suc i < laneLimit → take windowSize (drop (laneWindowPlace (suc i)) whole) ≡ take windowSize (drop (i * windowSize) w)
   other-part i h =
@@ -101,11 +112,11 @@ module _ (f p c w k : List ℕ) (l : Long f p c w k) where
       ap (take windowSize) (sym (drop-drop (i * windowSize) imageLength whole) ∙ ap (drop (i * windowSize)) from-others ∙ drop-append-le (i * windowSize) w k e)
       ∙ take-append-le windowSize (drop (i * windowSize) w) k (omega (arith, length-drop (i * windowSize) w, l .windows))
 
-  pub lane-parts : (i : ℕ) → laneImage i whole ≡ oneInParts f (take windowSize (drop (laneWindowPlace i) whole)) c (take clipsSize (drop (i * clipsSize) k))
+  pub lane-parts : (i : ℕ) → laneImage i whole ≡ oneInParts f (take windowSize (drop (laneWindowPlace i) whole)) c (bytesOf countSize (total (sidesAt (i * clipsSize) k)))
   unfolding laneImage
-  lane-parts i = λ t. front-part t ++ (take windowSize (drop (laneWindowPlace i) whole) ++ (counts-part t ++ (clip-part i t ++ end-part t)))
+  lane-parts i = λ t. front-part t ++ (take windowSize (drop (laneWindowPlace i) whole) ++ (counts-part t ++ (bytesOf countSize (total (sides-part i t)) ++ end-part t)))
 
--- any 224 bytes are such parts
+-- any 288 bytes are such parts
 module _ (bs : List ℕ) (h : length bs ≡ lanesLength) where
   abbrev pub frontBytes : List ℕ
   frontBytes = take windowPlace bs
@@ -197,12 +208,11 @@ module _ (bs : List ℕ) (h : length bs ≡ lanesLength) where
       let a : List ℕ = take windowPlace bs in
       let b : List ℕ = laneWindow i in
       let c : List ℕ = take (clipsPlace - takenPlace) (drop takenPlace bs) in
-      let d : List ℕ = take clipsSize (drop (laneClipsPlace + i * clipsSize) bs) in
+      let d : List ℕ = bytesOf countSize (total (sidesIn i bs)) in
       let e : List ℕ = drop endPlace (take imageLength bs) in
       let c-long : length c ≡ clipsPlace - takenPlace = length-take-le (clipsPlace - takenPlace) (drop takenPlace bs) (omega (arith, h, length-drop takenPlace bs)) in
-      let d-long : length d ≡ clipsSize = length-take-le clipsSize (drop (laneClipsPlace + i * clipsSize) bs) (omega (arith, h, length-drop (laneClipsPlace + i * clipsSize) bs)) in
       let e-long : length e ≡ imageLength - endPlace = omega (arith, length-drop endPlace (take imageLength bs), length-take-le imageLength bs (omega (arith, h))) in
-      omega (arith, length-append a (b ++ (c ++ (d ++ e))), length-append b (c ++ (d ++ e)), length-append c (d ++ e), length-append d e, parts-long bs h .front, window-long i l)
+      omega (arith, length-append a (b ++ (c ++ (d ++ e))), length-append b (c ++ (d ++ e)), length-append c (d ++ e), length-append d e, bytes-long countSize (total (sidesIn i bs)), parts-long bs h .front, window-long i l)
 
   pub lane-image-state : (i : ℕ) → i < laneLimit → stateIn (laneImage i bs) ≡ laneOf (lanesIn bs) i
   unfolding laneImage
@@ -229,38 +239,41 @@ lane-image-is bs g i l =
     image-is (laneImage i bs) (lane-long bs (e .0) i l) (lane-zeros bs (e .0) i l ∙ z .1) (ap isState (lane-image-state bs (e .0) i l) ∙ every-lane (lanesIn bs) i ∙ lanes-in bs g)
 
 -- ---- what is written as an image of lanes
-flat-long : (xs : List ℕ) → length (flatMap (bytesOf clipsSize) xs) ≡ length xs * clipsSize
+sides-long : (xs : List Clips) → length (flatMap sidesOf xs) ≡ length xs * clipsSize
 unfolding flatMap bytesOf
-flat-long [] = refl
-flat-long (x ∷ xs) = let e = flat-long xs in omega arith
+sides-long [] = refl
+sides-long (x ∷ xs) = let e = sides-long xs in omega arith
 
-flat-part : (xs : List ℕ) (i : ℕ) → i < length xs → take clipsSize (drop (i * clipsSize) (flatMap (bytesOf clipsSize) xs)) ≡ bytesOf clipsSize (getD xs i 0)
+-- counts that have room in their bytes are read as they were written
+sides-read : (xs : List Clips) (i : ℕ) → i < length xs → total (getD xs i noClips) < 2 ^ 32 → sidesAt (i * clipsSize) (flatMap sidesOf xs) ≡ getD xs i noClips
 unfolding flatMap bytesOf
-flat-part [] i h = absurd (omega arith)
-flat-part (x ∷ xs) zero h = refl
-flat-part (x ∷ xs) (suc i) h = let e : suc i * 4 ≡ suc (suc (suc (suc (i * 4)))) = omega arith in rw e (flat-part xs i (omega arith))
+sides-read [] i h r = absurd (omega arith)
+sides-read (x ∷ xs) zero h r = λ t. clipCounts (number-bytes countSize (x .high) (omega (arith, r, high-most x)) t) (number-bytes countSize (x .low) (omega (arith, r, low-most x)) t)
+sides-read (x ∷ xs) (suc i) h r =
+    let e : suc i * clipsSize ≡ clipsSize + i * clipsSize = omega arith in
+    ap (λ n. sidesAt n (flatMap sidesOf (x ∷ xs))) e ∙ sides-behind clipsSize (i * clipsSize) (flatMap sidesOf (x ∷ xs)) ∙ sides-read xs i (omega arith) r
 
--- its sizes: four samples in lane 0's window, the bytes of fifteen windows, sixteen counts
-pub record Sized (v : Saved) (ws cs : List ℕ) : Type 0 where
+-- its sizes: four samples in lane 0's window, the bytes of fifteen windows, the counts of sixteen lanes
+pub record Sized (v : Saved) (ws : List ℕ) (cs : List Clips) : Type 0 where
   pub four : length (v .state .window) ≡ windowLength
   pub windows : length ws ≡ laneClipsPlace - imageLength
   pub counts : length cs ≡ laneLimit
 
-module _ (v : Saved) (ws cs : List ℕ) where
-  written-parts : lanesImageOf v ws cs ≡ inParts (frontOf (v .state)) (pairsOf (v .state .window)) (countsOf (v .shown)) ws (flatMap (bytesOf clipsSize) cs)
+module _ (v : Saved) (ws : List ℕ) (cs : List Clips) where
+  written-parts : lanesImageOf v ws cs ≡ inParts (frontOf (v .state)) (pairsOf (v .state .window)) (countsOf (v .shown)) ws (flatMap sidesOf cs)
   unfolding lanesImageOf imageOf
   written-parts =
-      let z : List ℕ = ws ++ flatMap (bytesOf clipsSize) cs in
+      let z : List ℕ = ws ++ flatMap sidesOf cs in
       append-assoc (frontOf (v .state)) (pairsOf (v .state .window) ++ countsOf (v .shown)) z ∙ ap (λ y. frontOf (v .state) ++ y) (append-assoc (pairsOf (v .state .window)) (countsOf (v .shown)) z)
 
-  written-long : Sized v ws cs → Long (frontOf (v .state)) (pairsOf (v .state .window)) (countsOf (v .shown)) ws (flatMap (bytesOf clipsSize) cs)
+  written-long : Sized v ws cs → Long (frontOf (v .state)) (pairsOf (v .state .window)) (countsOf (v .shown)) ws (flatMap sidesOf cs)
   unfolding frontOf countsOf bytesOf
   written-long h = record {
     front = refl;
     window = omega (arith, pairs-long (v .state .window), h .four);
     counts = refl;
     windows = h .windows;
-    clips = omega (arith, flat-long cs, h .counts);
+    clips = omega (arith, sides-long cs, h .counts);
   }
 
   pub written-first : Sized v ws cs → take imageLength (lanesImageOf v ws cs) ≡ imageOf v
@@ -276,13 +289,13 @@ module _ (v : Saved) (ws cs : List ℕ) where
   pub written-other : Sized v ws cs → (j : ℕ) → suc j < laneLimit → take windowSize (drop (laneWindowPlace (suc j)) (lanesImageOf v ws cs)) ≡ take windowSize (drop (j * windowSize) ws)
   written-other h j m = ap (λ z. take windowSize (drop (laneWindowPlace (suc j)) z)) written-parts ∙ other-part _ _ _ ws _ (written-long h) j m
 
-  pub written-clips : Sized v ws cs → (i : ℕ) → i < laneLimit → take clipsSize (drop (laneClipsPlace + i * clipsSize) (lanesImageOf v ws cs)) ≡ bytesOf clipsSize (getD cs i 0)
-  written-clips h i m = ap (λ z. take clipsSize (drop (laneClipsPlace + i * clipsSize) z)) written-parts ∙ clip-part _ _ _ ws _ (written-long h) i ∙ flat-part cs i (omega (arith, m, h .counts))
+  pub written-sides : Sized v ws cs → (i : ℕ) → i < laneLimit → total (getD cs i noClips) < 2 ^ 32 → sidesIn i (lanesImageOf v ws cs) ≡ getD cs i noClips
+  written-sides h i m r = ap (sidesIn i) written-parts ∙ sides-part _ _ _ ws _ (written-long h) i ∙ sides-read cs i (omega (arith, m, h .counts)) r
 
   pub written-length : Sized v ws cs → length (lanesImageOf v ws cs) ≡ lanesLength
   unfolding lanesImageOf
   written-length h =
-      omega (arith, length-append (imageOf v) (ws ++ flatMap (bytesOf clipsSize) cs), length-append ws (flatMap (bytesOf clipsSize) cs), image-long v (h .four), h .windows, flat-long cs, h .counts)
+      omega (arith, length-append (imageOf v) (ws ++ flatMap sidesOf cs), length-append ws (flatMap sidesOf cs), image-long v (h .four), h .windows, sides-long cs, h .counts)
 
 -- the bytes ws have the windows of the first c lanes, but for lane 0's
 abbrev pub HaveWindows : ℕ → Lanes → List ℕ → Type 0
@@ -301,7 +314,7 @@ abbrev pub withClips : Shown → ℕ → Shown
 withClips u n = record { taken = u .taken; written = u .written; clips = n; end = u .end }
 
 -- the image of lane i in an image of lanes that is written is what is written for lane i alone
-module _ (l : Lanes) (u : Shown) (ws cs : List ℕ) (h : Sized (record { state = laneOf l 0; shown = u }) ws cs) (c : ℕ) (m : c ≤ laneLimit) (w : HaveWindows c l ws) where
+module _ (l : Lanes) (u : Shown) (ws : List ℕ) (cs : List Clips) (h : Sized (record { state = laneOf l 0; shown = u }) ws cs) (c : ℕ) (m : c ≤ laneLimit) (w : HaveWindows c l ws) where
   abbrev first-saved : Saved
   first-saved = record { state = laneOf l 0; shown = u }
 
@@ -310,9 +323,10 @@ module _ (l : Lanes) (u : Shown) (ws cs : List ℕ) (h : Sized (record { state =
   window-written (suc i) k =
       written-other first-saved ws cs h i (omega (arith, k, m)) ∙ w i k
 
-  pub lane-written : (i : ℕ) → i < c → laneImage i (lanesImageOf first-saved ws cs) ≡ imageOf (record { state = laneOf l i; shown = withClips u (getD cs i 0) })
+  pub lane-written : (i : ℕ) → i < c → total (getD cs i noClips) < 2 ^ 32
+      → laneImage i (lanesImageOf first-saved ws cs) ≡ imageOf (record { state = laneOf l i; shown = withClips u (total (getD cs i noClips)) })
   unfolding imageOf frontOf countsOf bytesOf laneOf
-  lane-written i k =
+  lane-written i k r =
       let p = written-parts first-saved ws cs in
-      ap (laneImage i) p ∙ lane-parts (frontOf (laneOf l 0)) (pairsOf (laneOf l 0 .window)) (countsOf u) ws (flatMap (bytesOf clipsSize) cs) (written-long first-saved ws cs h) i
-      ∙ (λ t. oneInParts (frontOf (laneOf l 0)) ((ap (λ z. take windowSize (drop (laneWindowPlace i) z)) (sym p) ∙ window-written i k) t) (countsOf u) (flat-part cs i (omega (arith, k, m, h .counts)) t))
+      ap (laneImage i) p ∙ lane-parts (frontOf (laneOf l 0)) (pairsOf (laneOf l 0 .window)) (countsOf u) ws (flatMap sidesOf cs) (written-long first-saved ws cs h) i
+      ∙ (λ t. oneInParts (frontOf (laneOf l 0)) ((ap (λ z. take windowSize (drop (laneWindowPlace i) z)) (sym p) ∙ window-written i k) t) (countsOf u) (bytesOf countSize (total (sides-read cs i (omega (arith, k, m, h .counts)) r t))))

@@ -1,12 +1,13 @@
 -- What can be seen of an image of lanes: each list of arguments has one list of host calls that meets the contracts, and one only; and what `host-lanes-third` says of one lane of one feed. So
 -- the statement is not empty. Assumes nothing.
-use mathlib.Core.Path.{_≡_, refl, ap, subst, _∙_}
+use mathlib.Core.Path.{_≡_, refl, sym, ap, subst, _∙_}
 use mathlib.Core.Bool.{true, _&&_}
 use mathlib.Core.List.{List, [], _∷_, map}
 use Prim.Native.Nat.{ℕ, _/_, _^_, _<_}
 use native.Mathlib.Omega.{arith}
-use lib.ListN.{length, take}
+use lib.ListN.{length, take, getD}
 use Rattle.oscillator_spec.specs.declared.settings.Setting.{Setting}
+use Rattle.kernels_spec.specs.Clips.{noClips}
 use Rattle.bytes_spec.specs.Bytes.{Bytes, samplesOf}
 use Rattle.converter_state.specs.Start.{started}
 use Rattle.converter_spec.specs.Paper.{begin}
@@ -20,9 +21,9 @@ use Rattle.host_spec.specs.Image.{imageLength}
 use Rattle.host_spec.specs.Host.{isBuffer, FeedReply, feedReply, hostRetune}
 use Rattle.host_spec.specs.Calls.{CallsShown}
 use Rattle.host_spec.specs.Calls as alone
-use Rattle.host_spec.specs.LaneImage.{laneImage}
+use Rattle.host_spec.specs.LaneImage.{sidesIn, laneImage}
 use Rattle.host_spec.specs.LaneHost.{hostStartLanes, isFeed, hostFeedLanes}
-use Rattle.host_spec.specs.LaneCalls.{HostLaneCall, HostLanesMeets, lanesImageAfter, SeenOnLanes, ReachesAll, hostCallsOn}
+use Rattle.host_spec.specs.LaneCalls.{HostLaneCall, HostLanesMeets, lanesImageAfter, SeenOnLanes, ReachesAll, hostCallsOn, sidesSeen}
 use Rattle.host_spec.specs.LaneCalls as lanes
 use Rattle.host_spec.proofs.HostTraces.{OneShown, read-off}
 use Rattle.host_spec.proofs.LaneFeeds.{shares-fit}
@@ -89,13 +90,15 @@ module _ (image : List ℕ) (k : ℕ) (a : Setting) (P : ℕ) (h : P < 2 ^ 32) (
 
   pub one-lane-agrees : (t : OneShown (started k a P .state) (lanePart c i input) (lanePart c i old) laneReply)
       × Agrees (begin k a P) (state.feed (samplesOf (lanePart c i input)) (samplesOf (lanePart c i old)) (t .answer) (t .left) ∷ [])
-  unfolding SeenOnLanes ReachesAll hostCallsOn
+      × (t .answer .counts .clips ≡ sidesIn i (fed .image))
+  unfolding SeenOnLanes ReachesAll hostCallsOn sidesSeen
   one-lane-agrees =
       let cs : List HostLaneCall = lanes.feed c input old fed ∷ [] in
       let made : isFeed c (length input) (length old) ≡ true = rw (e, p) in
       let below : i < laneLimit = omega (arith, m, parts-are c (length input / 2) (length old / 2) p .below) in
       let t = host-lanes-third image k a P h z cs ((b, refl), tt) i below ((λ y. m), tt) in
       let only : hostCallsOn i begun cs ≡ alone.feed (lanePart c i input) (lanePart c i old) laneReply ∷ [] = rw made in
-      let u = subst (λ ds. (t : CallsShown (started k a P .state) ds) × Agrees (begin k a P) (t .calls)) only t in
+      let sides : sidesSeen i cs ≡ sidesIn i (fed .image) ∷ [] = rw made in
+      let u = subst (λ ds. (t : CallsShown (started k a P .state) ds) × Agrees (begin k a P) (t .calls) × (map state.clipped (t .calls) ≡ sidesSeen i cs)) only t in
       let r = read-off (lanePart c i input) (lanePart c i old) (shares-fit c input old e p i m) laneReply (u .0 .calls) (u .0 .seen) (u .0 .shows) in
-      (r .0, subst (Agrees (begin k a P)) (r .1) (u .1))
+      (r .0, subst (Agrees (begin k a P)) (r .1) (u .1), ap (λ ns. getD ns 0 noClips) (sym (ap (map state.clipped) (r .1)) ∙ u .2 ∙ sides))

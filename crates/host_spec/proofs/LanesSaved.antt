@@ -8,20 +8,21 @@ use Prim.Native.Nat.{ℕ, zero, suc, _+_, _-_, _*_, _/_, _≤_, _<_}
 use native.Mathlib.Omega.{arith}
 use lib.IntN.{ℤ}
 use lib.ListN.{length, take, drop, length-drop, take-append-drop}
-use lib.Seq.{drop-at, drop-drop}
+use lib.Seq.{length-take-le, take-add, drop-at, drop-drop}
 use Rattle.oscillator_spec.specs.declared.settings.Setting.{Setting}
 use Rattle.oscillator_spec.specs.Word.{word, wordOf}
 use Rattle.bytes_spec.specs.Overwritten.{over}
-use Rattle.bytes_spec.specs.Bytes.{Bytes, numberOf, bytesOf, samplesOf, AreSamples, pairOf, pairsOf}
+use Rattle.bytes_spec.specs.Bytes.{Bytes, numberOf, numberAt, bytesOf, samplesOf, AreSamples, pairOf, pairsOf}
 use Rattle.bytes_spec.proofs.ByteNumbers.{bytes-take, bytes-drop, bytes-number}
 use Rattle.bytes_spec.proofs.Samples.{samples-long, samples-append, samples-pairs, pairs-samples, pairs-long}
 use Rattle.integers.specs.Table.{both}
+use Rattle.kernels_spec.specs.declared.clips.Clips.{Clips}
 use Rattle.converter_state.specs.declared.state.State.{State}
 use Rattle.converter_spec.specs.declared.feeding.Fed.{Fed}
 use Rattle.lanes_state.specs.declared.lanes.Lanes.{Lanes}
 use Rattle.lanes_state.specs.Parts.{part, lanePart, each}
 use Rattle.lanes_state.specs.Lanes.{laneLimit, windowLength, laneOf, lanesOf}
-use Rattle.lanes_state.proofs.Parts.{below, parts-all, each-same, same-parts, part-length}
+use Rattle.lanes_state.proofs.Parts.{below, parts-all, each-same, same-parts}
 use Rattle.lanes_state.proofs.LaneStates.{lanes-lane, lanes-at}
 use Rattle.lanes_spec.specs.declared.feeding.FedLanes.{FedLanes}
 use Rattle.lanes_spec.specs.LaneFeeding.{areParts, laneFed, HasWindows}
@@ -29,7 +30,7 @@ use Rattle.lanes_spec.proofs.LanesAlone.{Parted, parts-are, fed-windows}
 use Rattle.host_spec.specs.declared.saved.Saved.{Saved}
 use Rattle.host_spec.specs.declared.saved.Shown.{Shown}
 use Rattle.host_spec.specs.Image.{wordPlace, windowPlace, imageLength, imageOf, windowBytes, savedOf, stateIn}
-use Rattle.host_spec.specs.LaneImage.{windowSize, clipsSize, laneClipsPlace, lanesLength, lanesImageOf, otherWindows, lanesIn, clipsIn, allClipsIn, isLanesImage, laneWindowPlace, laneImage}
+use Rattle.host_spec.specs.LaneImage.{windowSize, countSize, clipsSize, laneClipsPlace, lanesLength, sidesOf, lanesImageOf, otherWindows, lanesIn, sidesIn, allSidesIn, isLanesImage, laneWindowPlace, laneImage}
 use Rattle.host_spec.specs.Host.{Reply, reply, isBuffer, hostRetune}
 use Rattle.host_spec.specs.LaneHost.{answerIn, lanesImageFed}
 use Rattle.host_spec.proofs.LaneFeeds.{lanes-windows, shares-fit, fed-image-long, lane-fed-answer, image-fed, answer-kept, past-window}
@@ -51,7 +52,7 @@ flat-each g h zero = refl
 flat-each g h (suc c) = flat-append g (each (λ i. h i ∷ []) c) (h c ∷ []) ∙ (λ t. flat-each g h c t ++ append-nil (g (h c)) t)
 
 -- ---- lanes that are written are held
-pub lanes-image : (l : Lanes) → HasWindows l → AreSamples (l .windows) → (u : Shown) → Fits (record { state = laneOf l 0; shown = u }) → (cs : List ℕ) → length cs ≡ laneLimit
+pub lanes-image : (l : Lanes) → HasWindows l → AreSamples (l .windows) → (u : Shown) → Fits (record { state = laneOf l 0; shown = u }) → (cs : List Clips) → length cs ≡ laneLimit
     → lanesIn (lanesImageOf (record { state = laneOf l 0; shown = u }) (pairsOf (drop windowLength (l .windows))) cs) ≡ l
 unfolding lanesIn laneOf
 lanes-image l w s u f cs n =
@@ -67,7 +68,7 @@ lanes-image l w s u f cs n =
 
 -- ---- an accepted image is written of what it holds
 pub image-lanes : (bs : List ℕ) → Bytes bs → isLanesImage bs ≡ true
-    → lanesImageOf (savedOf (take imageLength bs)) (pairsOf (drop windowLength (lanesIn bs .windows))) (allClipsIn bs) ≡ bs
+    → lanesImageOf (savedOf (take imageLength bs)) (pairsOf (drop windowLength (lanesIn bs .windows))) (allSidesIn bs) ≡ bs
 unfolding lanesImageOf lanesIn lanesOf
 image-lanes bs b g =
     let e = is-lanes-image bs g in
@@ -79,13 +80,20 @@ image-lanes bs b g =
     = ap (λ z. pairsOf (drop windowLength z)) (samples-append (windowBytes bs) (otherWindows bs) (omega (arith, l .window)))
     ∙ ap pairsOf (drop-at (samplesOf (windowBytes bs)) (samplesOf (otherWindows bs)) windowLength four)
     ∙ pairs-samples (otherWindows bs) (bytes-take (laneClipsPlace - imageLength) (drop imageLength bs) (bytes-drop imageLength bs b)) (omega (arith, l .windows)) in
-    let count : (i : ℕ) → i < laneLimit → bytesOf clipsSize (clipsIn i bs) ≡ part clipsSize i k
+    -- four bytes at a place, and the eight of lane i
+    let four-at : (a : ℕ) → a + countSize ≤ lanesLength → bytesOf countSize (numberAt a countSize bs) ≡ take countSize (drop a bs)
+    = λ a h.
+    let xs : List ℕ = take countSize (drop a bs) in
+    subst (λ m. bytesOf m (numberOf xs) ≡ xs) (length-take-le countSize (drop a bs) (omega (arith, h, e .0, length-drop a bs))) (bytes-number xs (bytes-take countSize (drop a bs) (bytes-drop a bs b))) in
+    let sides : (i : ℕ) → i < laneLimit → sidesOf (sidesIn i bs) ≡ part clipsSize i k
     = λ i h.
-    let n : length (part clipsSize i k) ≡ clipsSize = part-length clipsSize i k (omega (arith, h, l .clips)) in
-    ap (λ z. bytesOf clipsSize (numberOf (take clipsSize z))) (sym (drop-drop (i * clipsSize) laneClipsPlace bs))
-    ∙ subst (λ m. bytesOf m (numberOf (part clipsSize i k)) ≡ part clipsSize i k) n (bytes-number (part clipsSize i k) (bytes-take clipsSize (drop (i * clipsSize) k) (bytes-drop (i * clipsSize) k (bytes-drop laneClipsPlace bs b)))) in
-    let clips : flatMap (bytesOf clipsSize) (allClipsIn bs) ≡ k
-    = flat-each (bytesOf clipsSize) (λ i. clipsIn i bs) laneLimit ∙ each-same (λ i. bytesOf clipsSize (clipsIn i bs)) (λ i. part clipsSize i k) laneLimit count ∙ parts-all clipsSize laneLimit k (l .clips) in
+    let a : ℕ = laneClipsPlace + i * clipsSize in
+    (λ t. four-at a (omega (arith, h)) t ++ four-at (a + countSize) (omega (arith, h)) t)
+    ∙ ap (λ z. take countSize (drop a bs) ++ take countSize z) (sym (drop-drop countSize a bs))
+    ∙ sym (take-add countSize countSize (drop a bs))
+    ∙ ap (take clipsSize) (sym (drop-drop (i * clipsSize) laneClipsPlace bs)) in
+    let clips : flatMap sidesOf (allSidesIn bs) ≡ k
+    = flat-each sidesOf (λ i. sidesIn i bs) laneLimit ∙ each-same (λ i. sidesOf (sidesIn i bs)) (λ i. part clipsSize i k) laneLimit sides ∙ parts-all clipsSize laneLimit k (l .clips) in
     (λ t. first t ++ (others t ++ clips t))
     ∙ ap (λ z. take imageLength bs ++ (otherWindows bs ++ z)) (sym (drop-drop (laneClipsPlace - imageLength) imageLength bs))
     ∙ ap (λ z. take imageLength bs ++ z) (take-append-drop (laneClipsPlace - imageLength) (drop imageLength bs))

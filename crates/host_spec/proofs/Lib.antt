@@ -9,6 +9,7 @@ pub mod LaneHosts
 pub mod LaneFeeds
 pub mod ShownLanes
 pub mod LaneTraces
+pub mod SidesShown
 pub mod LanesSaved
 pub mod LaneExamples
 pub mod HostLineLaws

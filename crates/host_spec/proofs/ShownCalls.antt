@@ -130,7 +130,7 @@ module _ {image : List ℕ} (g : Good image) (input old : List ℕ) (b : Bytes i
   fed-shown = rw (samples-long old) (record {
     taken-from = refl;
     before = refl;
-    saved = rw (fed-is .0) saved-fed;
+    saved = rw (fed-is .0, saved-fed) refl;
     refusal = rw (fed-is .0) refl;
     after = rw (fed-is .1) (samples-over (runOf image input old .outputs) old (run-four .1));
   })
@@ -199,12 +199,12 @@ step-retune {image} g a = go (wordOf a) refl
         let q = retune-setting (stateIn image) a n (good-state g) e in
         rw (retune-refused image a n (g .image) (ap (λ (r : Retuned). r .refusal) q) (λ z. omega (arith, z, refusal-within a n e .0))) (shows q refl refl g)
 
-step : (image : List ℕ) (c : HostCall) → Good image → HostMeets image c → Steps image c
+pub step : (image : List ℕ) (c : HostCall) → Good image → HostMeets image c → Steps image c
 step image (feed input old l) g m = rw (m .1) (step-feed g input old (m .0))
 step image (retune a l) g m = rw m (step-retune g a)
 
 -- ---- the calls
-abbrev stateCalls : State → List HostCall → List Call
+abbrev pub stateCalls : State → List HostCall → List Call
 stateCalls s cs = calls s (map askedOf (madeOf cs))
 
 shows-all : (cs : List HostCall) (image : List ℕ) (s : State) → s ≡ stateIn image → Good image → SeenOn image cs → Shows (madeOf cs) (stateCalls s cs)
@@ -236,11 +236,11 @@ all-asked [] (d ∷ ds) h = absurd h
 all-asked (c ∷ cs) [] h = absurd h
 all-asked (c ∷ cs) (d ∷ ds) h = λ i. asked-shown c d (h .0) i ∷ all-asked cs ds (h .1) i
 
+pub shown-calls : {s : State} {cs : List HostCall} (t : CallsShown s cs) → t .calls ≡ stateCalls s cs
+shown-calls {s} {cs} t = seen-only s (t .calls) (t .seen) ∙ ap (calls s) (all-asked (madeOf cs) (t .calls) (t .shows))
+
 pub shown-only : {s : State} {cs : List HostCall} (t u : CallsShown s cs) → t .calls ≡ u .calls
-shown-only {s} {cs} t u =
-    seen-only s (t .calls) (t .seen)
-    ∙ ap (calls s) (all-asked (madeOf cs) (t .calls) (t .shows) ∙ sym (all-asked (madeOf cs) (u .calls) (u .shows)))
-    ∙ sym (seen-only s (u .calls) (u .seen))
+shown-only t u = shown-calls t ∙ sym (shown-calls u)
 
 -- ---- from an accepted start
 start-left : (image : List ℕ) (k : ℕ) (a : Setting) (P : ℕ) → hostStart image k a P .result ≡ 0

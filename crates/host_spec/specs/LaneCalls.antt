@@ -2,22 +2,24 @@
 -- proofs/ShownLanes.antt.
 use mathlib.Core.Path.{_≡_}
 use mathlib.Core.Bool.{Bool, true, cond}
-use mathlib.Core.List.{List, [], _∷_}
+use mathlib.Core.List.{List, [], _∷_, map}
 use Prim.Native.Nat.{ℕ, _^_, _<_}
 use lib.ListN.{length, take}
 use Rattle.oscillator_spec.specs.declared.settings.Setting.{Setting}
+use Rattle.kernels_spec.specs.declared.clips.Clips.{Clips}
+use Rattle.kernels_spec.specs.Clips.{noClips}
 use Rattle.bytes_spec.specs.Bytes.{Bytes}
 use Rattle.bytes_spec.specs.Overwritten.{over}
 use Rattle.converter_state.specs.Start.{started}
 use Rattle.converter_spec.specs.Paper.{begin}
-use Rattle.converter_spec.specs.Demand.{Agrees}
+use Rattle.converter_spec.specs.Demand.{clipped, Agrees}
 use Rattle.lanes_state.specs.Parts.{lanePart}
 use Rattle.lanes_state.specs.Lanes.{laneLimit}
 use Rattle.host_spec.specs.Image.{imageLength}
 use Rattle.host_spec.specs.Host.{Reply, reply, FeedReply, feedReply, hostRetune}
 use Rattle.host_spec.specs.Calls.{HostCall, CallsShown}
 use Rattle.host_spec.specs.Calls as alone
-use Rattle.host_spec.specs.LaneImage.{laneImage}
+use Rattle.host_spec.specs.LaneImage.{sidesIn, laneImage}
 use Rattle.host_spec.specs.LaneHost.{hostStartLanes, isFeed, hostFeedLanes}
 
 -- A host call on an image of lanes: the lane count, the input, what the output buffer held, and what the feed returned and left; or the setting, and what the retune returned and left of the
@@ -66,8 +68,18 @@ hostCallsOn i image (c ∷ cs) =
     let rest = hostCallsOn i (lanesImageAfter image c) cs in
     cond (isFeeding c) (hostCallOn i image c ∷ rest) rest
 
--- From an accepted start of lanes, the host calls that a lane saw which every feed reached show a list of calls on its state, and that list agrees with the paper's run.
+-- the clip counts of lane i that the image shows after each call that is made; a retune counts nothing
+abbrev pub sidesAfter : ℕ → HostLaneCall → Clips
+sidesAfter i (feed c input old l) = sidesIn i (l .image)
+sidesAfter i (retune a l) = noClips
+
+unfoldable pub sidesSeen : ℕ → List HostLaneCall → List Clips
+sidesSeen i [] = []
+sidesSeen i (c ∷ cs) = cond (isFeeding c) (sidesAfter i c ∷ sidesSeen i cs) (sidesSeen i cs)
+
+-- From an accepted start of lanes, the host calls that a lane saw which every feed reached show a list of calls on its state, that list agrees with the paper's run, and the
+-- images show the clip counts of its calls, high and low (request U5).
 abbrev pub HostLanesThird : Type 0
 HostLanesThird = (image : List ℕ) (k : ℕ) (a : Setting) (P : ℕ) → P < 2 ^ 32 → hostStartLanes image k a P .result ≡ 0
     → (cs : List HostLaneCall) → SeenOnLanes (hostStartLanes image k a P .image) cs → (i : ℕ) → i < laneLimit → ReachesAll i cs
-    → (t : CallsShown (started k a P .state) (hostCallsOn i (hostStartLanes image k a P .image) cs)) × Agrees (begin k a P) (t .calls)
+    → (t : CallsShown (started k a P .state) (hostCallsOn i (hostStartLanes image k a P .image) cs)) × Agrees (begin k a P) (t .calls) × (map clipped (t .calls) ≡ sidesSeen i cs)

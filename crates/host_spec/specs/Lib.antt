@@ -4,6 +4,7 @@ pub mod Calls
 pub mod LaneImage
 pub mod LaneHost
 pub mod LaneCalls
+pub mod HostSides
 pub mod HostLines
 pub mod HostRoundTrips
 pub mod HostOrder

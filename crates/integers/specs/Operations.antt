@@ -6,14 +6,14 @@
 use mathlib.Core.Path.{_≡_, refl, sym, _∙_, ap, subst}
 use mathlib.Core.Bool.{Bool, true, false, not}
 use mathlib.Core.List.{List, [], _∷_}
-use Prim.Native.Nat.{ℕ, zero, suc, _^_, _<_, _≤_}
+use Prim.Native.Nat.{ℕ, zero, suc, _-_, _^_, _<_, _≤_}
 use native.Mathlib.Nat.{lt-of-le-of-lt}
 use lib.Dec.{T, ltb, ltb→lt}
-use lib.IntN.{ℤ, pos, natAbs}
+use lib.IntN.{ℤ, pos, negsuc, natAbs}
 use lib.Signed.{_≤ℤ_, _<ℤ_, leZ, ltZ, leZ-yes, ltZ-yes, ltZ-no, nonNeg, yes-nonNeg, pos-natAbs, shrZ, quotZ, mag-shr}
 use lib.ListN.{getD}
 use mir.Syntax.{Width, w8, w16, w32, w64, w128}
-use mir.Val.{Val, Fits, SFits, bits, hbits, toZ, ofZ}
+use mir.Val.{Val, Fits, SFits, bits, hbits, sel, toZ, ofZ}
 use mir.Facts.{toZ-ofZ, toZ-pos}
 use denote.Array.{each}
 use denote.Shadow.{shadow}
@@ -90,6 +90,14 @@ lt-no p q e = ltZ-no (subst (λ (b : Bool). T (not b)) (sym (sym (λ i. ltZ (p i
 
 pub le-no : {t u x y : ℤ} → t ≡ x → u ≡ y → leZ t u ≡ false → y <ℤ x
 le-no {t} {u} {x} {y} p q e = lt-or-le y x (λ h. h) (λ h. absurd (subst T (sym (λ i. leZ (p i) (q i)) ∙ e) (h .le)))
+
+-- bits that stand for 0 are 0
+pub zero-bits : (n : ℕ) → toZ w64 n ≡ pos 0 → n ≡ 0
+zero-bits n = go (ltb n (2 ^ hbits w64))
+  where
+    go : (b : Bool) → sel b (pos n) (negsuc (2 ^ bits w64 - suc n)) ≡ pos 0 → n ≡ 0
+    go true e = ap natAbs e
+    go false e = absurd (omega ωℤ)
 
 -- ---- an element of an array of signed integers, at any index: `search (needs, elem-sfits)` finds it in what owning the array tells
 pub elem-sfits : (w : Width) (xs : List ℤ) (us : List Val) (i : ℕ) → shadow (each ℤ (SInt w .own) xs us) → SFits w (getD xs i (pos 0))

@@ -4,6 +4,7 @@ mod filter;
 mod output;
 
 pub use clips::add_clips;
+pub use clips::excess_clips;
 pub use clips::is_none;
 pub use clips::no_clips;
 pub use clips::total_clips;
@@ -12,5 +13,7 @@ pub use filter::nearest;
 pub use filter::numerator;
 pub use filter::reach;
 pub use filter::unit;
+pub use output::Held;
 pub use output::Output;
 pub use output::evaluate;
+pub use output::held_output;

@@ -1,21 +1,28 @@
 // The output of a kernel: its exact value, rounded once and held to 16 bits.
-use crate::clips::no_clips;
 use crate::filter::COEFFICIENTS;
 use crate::filter::short_numerator;
-use kernels_spec::Clips;
+use kernels_spec::Side;
 ghost use mathlib.Core.Path.{_≡_};
 ghost use Prim.Native.Nat.{_^_, _<_};
 ghost use lib.IntN.{pos, _*ℤ_};
 ghost use Rattle.integers.specs.Floor.{floorDiv};
 ghost use Rattle.integers.specs.Within.{Within};
 ghost use Rattle.kernels_spec.specs.Kernel.{coefficients, kernelOf};
+ghost use Rattle.kernels_spec.specs.Clips.{sideClips};
+ghost use Rattle.kernels_spec.specs.Excess.{excessClips};
 ghost use Rattle.kernels_spec.specs.Value.{unit, nearestWhole, held, clipsOf, outputOf, clipOf};
 ghost use Rattle.kernels.specs.Scale.{spare, largestNumerator};
 
-// `clips` is one where the value was held, else none.
+// `side` is where the value was held, if it was.
 pub struct Output {
     pub value: i16,
-    pub clips: Clips,
+    pub side: Side,
+}
+
+// A rounded value held to 16 bits, and by how much it lay outside: above 0 past 32767, below 0 past −32768, else 0. The loops of feeding go by this number and not by a side: decision 101.
+pub struct Held {
+    pub value: i16,
+    pub excess: i64,
 }
 
 // n/6 rounded down: a multiple of 6 makes the dividend positive.
@@ -40,57 +47,82 @@ fn round(kernel: u8, n: i64) -> i64
     (n + 0x1000_0000) >> 29
 }
 
-// Held to 16 bits, and one clip where that changed it.
-fn hold(z: i64) -> Output
-    ensures { λ r. ⌜ (r .value ≡ held 1 z) × (r .clips ≡ clipsOf z) ⌝ }
+// Holds a rounded value to 16 bits.
+fn hold(z: i64) -> Held
+    ensures { λ r. ⌜ (r .value ≡ held 1 z) × (excessClips (r .excess) ≡ clipsOf z) ⌝ }
 {
     if z > 32767 {
-        return Output {
+        let excess = z - 32767;
+        return Held {
             value: 32767,
-            clips: Clips { held: 1 },
+            excess: excess,
         };
     }
     if z < -32768 {
-        return Output {
+        let excess = z + 32768;
+        return Held {
             value: -32768,
-            clips: Clips { held: 1 },
+            excess: excess,
         };
     }
     let value = z as i16;
-    let clips = no_clips();
-    Output {
+    Held {
         value: value,
-        clips: clips,
+        excess: 0,
     }
 }
 
-fn evaluate_by(table: &[[[i64; 4]; 4]; 4], kernel: u8, register: u32, window: [i16; 4]) -> Output
+fn held_output_by(table: &[[[i64; 4]; 4]; 4], kernel: u8, register: u32, window: [i16; 4]) -> Held
     requires { ⌜ (kernel < 4) × (now table ≡ coefficients) ⌝ }
-    ensures { λ r. ⌜ (r .value ≡ outputOf (kernelOf kernel) register window) × (r .clips ≡ clipOf (kernelOf kernel) register window) ⌝ }
+    ensures { λ r. ⌜ (r .value ≡ outputOf (kernelOf kernel) register window) × (excessClips (r .excess) ≡ clipOf (kernelOf kernel) register window) ⌝ }
 {
     let n = short_numerator(table, kernel, register, window);
     let z = round(kernel, n);
     if kernel == 0 {
         // the rounded mean of two samples is a sample
         let value = z as i16;
-        let clips = no_clips();
-        return Output {
+        return Held {
             value: value,
-            clips: clips,
+            excess: 0,
         };
     }
     hold(z)
 }
 
-// The output at a register over the newest four samples, oldest first, and whether it was held. Numbers above 3 stand for kernel 3.
-pub fn evaluate(kernel: u8, register: u32, window: [i16; 4]) -> Output
-    ensures { λ r. ⌜ (r .value ≡ outputOf (kernelOf kernel) register window) × (r .clips ≡ clipOf (kernelOf kernel) register window) ⌝ }
+// The output at a register over the newest four samples, oldest first, and by how much it was held. Numbers above 3 stand for kernel 3.
+pub fn held_output(kernel: u8, register: u32, window: [i16; 4]) -> Held
+    ensures { λ r. ⌜ (r .value ≡ outputOf (kernelOf kernel) register window) × (excessClips (r .excess) ≡ clipOf (kernelOf kernel) register window) ⌝ }
 {
     let table = COEFFICIENTS;
     match kernel {
-        0 => evaluate_by(&table, 0, register, window),
-        1 => evaluate_by(&table, 1, register, window),
-        2 => evaluate_by(&table, 2, register, window),
-        _ => evaluate_by(&table, 3, register, window),
+        0 => held_output_by(&table, 0, register, window),
+        1 => held_output_by(&table, 1, register, window),
+        2 => held_output_by(&table, 2, register, window),
+        _ => held_output_by(&table, 3, register, window),
+    }
+}
+
+// The side on which so much lies outside.
+fn side_of(excess: i64) -> Side
+    ensures { λ r. ⌜ sideClips r ≡ excessClips excess ⌝ }
+{
+    if excess > 0 {
+        return Side::High;
+    }
+    if excess < 0 {
+        return Side::Low;
+    }
+    Side::Neither
+}
+
+// The same output, and the side on which it was held, if it was.
+pub fn evaluate(kernel: u8, register: u32, window: [i16; 4]) -> Output
+    ensures { λ r. ⌜ (r .value ≡ outputOf (kernelOf kernel) register window) × (sideClips (r .side) ≡ clipOf (kernelOf kernel) register window) ⌝ }
+{
+    let h = held_output(kernel, register, window);
+    let side = side_of(h.excess);
+    Output {
+        value: h.value,
+        side: side,
     }
 }

@@ -8,13 +8,12 @@ use lib.Dec.{T}
 use lib.IntN.{ℤ, pos, negℤ, natAbs, _+ℤ_, _-ℤ_, _*ℤ_}
 use lib.Signed.{_≤ℤ_, _<ℤ_, ltZ, leZ-yes, ltZ-yes, ltZ-no, clashℤ}
 use Rattle.integers.specs.Difference.{ω-add, ω-neg, ω-minus}
-use Rattle.integers.specs.Order.{ωℤ, ≤ℤ-trans, ≤ℤ-antisym, *ℤ-mono, nn-pos}
+use Rattle.integers.specs.Order.{ωℤ, ≤ℤ-trans, ≤ℤ-antisym, <ℤ-weak, *ℤ-mono, nn-pos}
 use Rattle.integers.specs.Within.{Within, w-between, abs-is}
 use Rattle.integers.specs.Range.{In, minZ, maxZ, min-max}
 use Rattle.integers.specs.Sample.{IsSample}
-use Rattle.kernels_spec.specs.Clips.{noClips, oneClip, total}
-use Rattle.kernels_spec.specs.Value.{held, outside, clipsOf}
-use Rattle.kernels_spec.proofs.Counting.{total-none, total-one}
+use Rattle.kernels_spec.specs.Clips.{noClips, total, HIGH, LOW, sideClips}
+use Rattle.kernels_spec.specs.Value.{held, isHigh, isLow, outside, clipsOf}
 
 -- ---- what is held, at any scale: a number between the limits, one below, one above
 module _ (S : ℕ) where
@@ -42,60 +41,75 @@ module _ (S : ℕ) where
   held-high {z} h =
       ap (maxZ low) (min-max high z (λ m n. m ≡ high) (λ i. refl) (λ i. clashℤ h i)) ∙ min-max low high (λ m n. n ≡ high) (λ i. refl) (λ i. ≤ℤ-antisym limits i)
 
--- ---- what counts as a clip: what holds of the three cases holds of the test
-sides : (z : ℤ) (P : Bool → Type 0) → (z <ℤ negℤ (pos 32768) → P true) → (pos 32767 <ℤ z → P true) → (IsSample z → P false) → P (outside z)
-unfolding outside
-sides z P below above within = go (ltZ z (negℤ (pos 32768))) refl (ltZ (pos 32767) z) refl
+-- ---- on which side: what holds of the three cases, below, above and between two limits, holds of the two tests
+pub beside : (lo hi z : ℤ) → lo ≤ℤ hi → (P : (below above : Bool) → Type 0) → (z <ℤ lo → P true false) → (hi <ℤ z → P false true) → (In lo hi z → P false false) → P (ltZ z lo) (ltZ hi z)
+beside lo hi z o P below above within = go (ltZ z lo) refl (ltZ hi z) refl
   where
-    go : (b : Bool) → ltZ z (negℤ (pos 32768)) ≡ b → (c : Bool) → ltZ (pos 32767) z ≡ c → P (b || c)
-    go true e c d = below (ltZ-yes (subst T (sym e) tt))
+    go : (b : Bool) → ltZ z lo ≡ b → (c : Bool) → ltZ hi z ≡ c → P b c
+    go true e true d = clashℤ (ltZ-yes (subst T (sym e) tt)) (≤ℤ-trans o (<ℤ-weak (ltZ-yes (subst T (sym d) tt))))
+    go true e false d = below (ltZ-yes (subst T (sym e) tt))
     go false e true d = above (ltZ-yes (subst T (sym d) tt))
     go false e false d = within (record { low = ltZ-no (subst (λ (b : Bool). T (not b)) (sym e) tt); high = ltZ-no (subst (λ (b : Bool). T (not b)) (sym d) tt) })
 
-pub outside-in : {z : ℤ} → IsSample z → outside z ≡ false
-outside-in {z} h = sides z (λ b. b ≡ false) (λ l. clashℤ l (h .low)) (λ l. clashℤ l (h .high)) (λ i. refl)
+pub sides : (z : ℤ) (P : (low high : Bool) → Type 0) → (z <ℤ negℤ (pos 32768) → P true false) → (pos 32767 <ℤ z → P false true) → (IsSample z → P false false) → P (isLow z) (isHigh z)
+unfolding isLow isHigh
+sides z P below above within = beside (negℤ (pos 32768)) (pos 32767) z (leZ-yes tt) P below above within
 
-pub outside-low : {z : ℤ} → z <ℤ negℤ (pos 32768) → outside z ≡ true
-outside-low {z} h = sides z (λ b. b ≡ true) (λ l. refl) (λ l. refl) (λ i. clashℤ h (i .low))
+-- the two tests inside, below and above
+tests-in : {z : ℤ} → IsSample z → (isLow z ≡ false) × (isHigh z ≡ false)
+tests-in {z} h = sides z (λ l u. (l ≡ false) × (u ≡ false)) (λ l. clashℤ l (h .low)) (λ l. clashℤ l (h .high)) (λ i. (refl, refl))
 
-pub outside-high : {z : ℤ} → pos 32767 <ℤ z → outside z ≡ true
-outside-high {z} h = sides z (λ b. b ≡ true) (λ l. refl) (λ l. refl) (λ i. clashℤ h (i .high))
+tests-low : {z : ℤ} → z <ℤ negℤ (pos 32768) → (isLow z ≡ true) × (isHigh z ≡ false)
+tests-low {z} h = sides z (λ l u. (l ≡ true) × (u ≡ false)) (λ l. (refl, refl)) (λ l. absurd (omega ωℤ)) (λ i. clashℤ h (i .low))
 
--- the clip that a value counts as: none inside, one outside
+tests-high : {z : ℤ} → pos 32767 <ℤ z → (isLow z ≡ false) × (isHigh z ≡ true)
+tests-high {z} h = sides z (λ l u. (l ≡ false) × (u ≡ true)) (λ l. absurd (omega ωℤ)) (λ l. (refl, refl)) (λ i. clashℤ h (i .high))
+
+-- the clip that a value counts as: none inside, and one outside, low or high
 pub clips-in : {z : ℤ} → IsSample z → clipsOf z ≡ noClips
-unfolding clipsOf
-clips-in h = ap (λ b. cond b oneClip noClips) (outside-in h)
+unfolding outside clipsOf noClips
+clips-in h = rw (tests-in h .0, tests-in h .1)
 
-pub clips-low : {z : ℤ} → z <ℤ negℤ (pos 32768) → clipsOf z ≡ oneClip
-unfolding clipsOf
-clips-low h = ap (λ b. cond b oneClip noClips) (outside-low h)
+pub clips-low : {z : ℤ} → z <ℤ negℤ (pos 32768) → clipsOf z ≡ sideClips LOW
+unfolding outside clipsOf sideClips
+clips-low h = rw (tests-low h .0, tests-low h .1)
 
-pub clips-high : {z : ℤ} → pos 32767 <ℤ z → clipsOf z ≡ oneClip
-unfolding clipsOf
-clips-high h = ap (λ b. cond b oneClip noClips) (outside-high h)
+pub clips-high : {z : ℤ} → pos 32767 <ℤ z → clipsOf z ≡ sideClips HIGH
+unfolding outside clipsOf sideClips
+clips-high h = rw (tests-high h .0, tests-high h .1)
+
+-- in all: the test `outside`
+pub clips-total : (z : ℤ) → total (clipsOf z) ≡ cond (outside z) 1 0
+unfolding clipsOf total outside
+clips-total z =
+    sides z (λ l u. total (clipsOf z) ≡ cond (outside z) 1 0)
+    (λ h. rw (tests-low h .0, tests-low h .1))
+    (λ h. rw (tests-high h .0, tests-high h .1))
+    (λ h. rw (tests-in h .0, tests-in h .1))
 
 pub clips-most : (z : ℤ) → total (clipsOf z) ≤ 1
-unfolding clipsOf
-clips-most z = go (outside z)
+clips-most z = rw (clips-total z) (go (outside z))
   where
-    go : (b : Bool) → total (cond b oneClip noClips) ≤ 1
-    go true = omega (arith, total-one)
-    go false = omega (arith, total-none)
+    go : (b : Bool) → cond b 1 0 ≤ 1
+    go true = omega arith
+    go false = omega arith
 
 -- in 16 bits always, and another number exactly where it counts as a clip
 pub held-fits : (z : ℤ) → IsSample (held 1 z)
 held-fits z =
-    sides z (λ b. IsSample (held 1 z))
+    sides z (λ l u. IsSample (held 1 z))
     (λ l. rw (held-low 1 l) (record { low = leZ-yes tt; high = leZ-yes tt }))
     (λ l. rw (held-high 1 l) (record { low = leZ-yes tt; high = leZ-yes tt }))
     (λ i. rw (held-in 1 i) i)
 
 pub inside-same : (z : ℤ) → outside z ≡ false → held 1 z ≡ z
-inside-same z = sides z (λ b. b ≡ false → held 1 z ≡ z) (λ l e. absurd (subst T e tt)) (λ l e. absurd (subst T e tt)) (λ i e. held-in 1 i)
+unfolding outside
+inside-same z = sides z (λ l u. (l || u) ≡ false → held 1 z ≡ z) (λ l e. absurd (subst T e tt)) (λ l e. absurd (subst T e tt)) (λ i e. held-in 1 i)
 
 pub outside-moved : (z : ℤ) → outside z ≡ true → held 1 z ≢ z
+unfolding outside
 outside-moved z =
-    sides z (λ b. b ≡ true → held 1 z ≢ z)
+    sides z (λ l u. (l || u) ≡ true → held 1 z ≢ z)
     (λ l e same. let s : z ≡ negℤ (pos 32768) = sym same ∙ held-low 1 l in omega ωℤ)
     (λ l e same. let s : z ≡ pos 32767 = sym same ∙ held-high 1 l in omega ωℤ)
     (λ i e. absurd (subst T (sym e) tt))

@@ -4,6 +4,7 @@ pub mod Numbers
 pub mod NearestWhole
 pub mod Hold
 pub mod Counting
+pub mod SideLaws
 pub mod Card
 pub mod Near
 pub mod Close

@@ -3,3 +3,5 @@ pub mod Clips
 pub mod Value
 pub mod Distance
 pub mod Demand2
+pub mod Sides
+pub mod Excess

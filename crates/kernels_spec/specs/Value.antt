@@ -12,7 +12,7 @@ use Rattle.integers.specs.Range.{minZ, maxZ}
 use Rattle.oscillator_spec.specs.Position.{basepoint, fraction, fourteenBits}
 use Rattle.kernels_spec.specs.declared.clips.Clips.{Clips}
 use Rattle.kernels_spec.specs.Kernel.{Samples, places, Kernel}
-use Rattle.kernels_spec.specs.Clips.{noClips, oneClip}
+use Rattle.kernels_spec.specs.Clips.{clipCounts}
 
 -- ---- exact
 -- a row of coefficients times the samples (a column of the Farrow structure in source document 002)
@@ -48,12 +48,20 @@ held S z = maxZ (negℤ (pos 32768) *ℤ pos S) (minZ (pos 32767 *ℤ pos S) z)
 unfoldable pub output : Kernel → Samples → ℤ → ℤ
 output κ x m = held 1 (rounded κ x m)
 
+-- request U5: "high exactly when the rounded value is above 32767, low exactly when it is below −32768, else neither"
+unfoldable pub isHigh : ℤ → Bool
+isHigh z = ltZ (pos 32767) z
+
+unfoldable pub isLow : ℤ → Bool
+isLow z = ltZ z (negℤ (pos 32768))
+
 -- "A held output counts as one clip": where the rounded value lies outside
 unfoldable pub outside : ℤ → Bool
-outside z = ltZ z (negℤ (pos 32768)) || ltZ (pos 32767) z
+outside z = isLow z || isHigh z
 
+-- the two counts of one output
 unfoldable pub clipsOf : ℤ → Clips
-clipsOf z = cond (outside z) oneClip noClips
+clipsOf z = clipCounts (cond (isHigh z) 1 0) (cond (isLow z) 1 0)
 
 unfoldable pub clips : Kernel → Samples → ℤ → Clips
 clips κ x m = clipsOf (rounded κ x m)
@@ -81,16 +89,23 @@ windowAt κ window place = places window (place + 2 - κ .reach)
 unfoldable pub filterFraction : Kernel → ℕ → ℤ
 filterFraction κ q = fourteenBits (fraction (κ .nearest) q)
 
--- "the value of demand 2 at the paper's basepoint and at m of the paper's fraction, over the joined samples": at the position q, and the clip that it counts as, or none
+-- "the value of demand 2 at the paper's basepoint and at m of the paper's fraction, over the joined samples": at the position q, the rounded value before it is held, and the clip that it
+-- counts as, or none
 unfoldable pub value : Kernel → List ℤ → ℕ → ℤ
 value κ xs q = output κ (joinedAt xs (basepoint (κ .nearest) q)) (filterFraction κ q)
+
+unfoldable pub roundedAt : Kernel → List ℤ → ℕ → ℤ
+roundedAt κ xs q = rounded κ (joinedAt xs (basepoint (κ .nearest) q)) (filterFraction κ q)
 
 unfoldable pub valueClips : Kernel → List ℤ → ℕ → Clips
 valueClips κ xs q = clips κ (joinedAt xs (basepoint (κ .nearest) q)) (filterFraction κ q)
 
--- from the card's register and window: the exact value over `unit κ (2 ^ 14)`, the output, and its clip or none
+-- from the card's register and window: the exact value over `unit κ (2 ^ 14)`, the rounded value, the output, and its clip or none
 unfoldable pub numeratorOf : Kernel → ℕ → List ℤ → ℤ
 numeratorOf κ register window = numerator κ (windowAt κ window) (filterFraction κ register) (pos (2 ^ 14))
+
+unfoldable pub roundedOf : Kernel → ℕ → List ℤ → ℤ
+roundedOf κ register window = rounded κ (windowAt κ window) (filterFraction κ register)
 
 unfoldable pub outputOf : Kernel → ℕ → List ℤ → ℤ
 outputOf κ register window = output κ (windowAt κ window) (filterFraction κ register)

@@ -3,3 +3,4 @@
 mod clips;
 
 pub use clips::Clips;
+pub use clips::Side;

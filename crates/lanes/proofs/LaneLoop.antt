@@ -12,7 +12,7 @@ use lib.ListN.{length, getD, take, drop, set}
 use lib.Seq.{sets-eq, take-all, drop-drop}
 use Rattle.bytes_spec.specs.Overwritten.{over}
 use Rattle.bytes_spec.proofs.Overwriting.{over-long}
-use Rattle.kernels_spec.specs.Clips.{total}
+use Rattle.kernels_spec.specs.declared.clips.Clips.{Clips}
 use Rattle.converter_state.specs.declared.state.State.{State}
 use Rattle.converter_spec.specs.declared.feeding.Fed.{Fed}
 use Rattle.converter_spec.specs.Feeding.{fedOf, outputsOf, FedRight}
@@ -81,28 +81,34 @@ module _ (l : Lanes) (c : ℕ) (input old : List ℤ) where
   abbrev pub windowAt : ℕ → List ℤ
   windowAt i = fedAt i .state .window
 
-  abbrev pub clipsAt : ℕ → List ℕ
-  clipsAt i = total (fedAt i .counts .clips) ∷ []
+  -- the counts of one side: a lane's, and those of the lanes before j
+  abbrev pub countAt : (Clips → ℕ) → ℕ → List ℕ
+  countAt side i = side (fedAt i .counts .clips) ∷ []
 
-  pub record SomeFed (output windows : List ℤ) (clips : List ℕ) (j : ℕ) : Type 0 where
+  abbrev pub Counted : (Clips → ℕ) → List ℕ → ℕ → Type 0
+  Counted side ns j = ns ≡ over (each (countAt side) j) noneClipped
+
+  pub record SomeFed (output windows : List ℤ) (highs lows : List ℕ) (j : ℕ) : Type 0 where
     pub parts : areParts c (length input) (length old) ≡ true
     pub has : HasWindows l
     pub most : j ≤ c
     pub outputs : output ≡ over (each (leftLane l c input old) j) old
     pub kept : windows ≡ over (each windowAt j) (l .windows)
-    pub held : clips ≡ over (each clipsAt j) noneClipped
+    pub high : Counted (λ k. k .high) highs j
+    pub low : Counted (λ k. k .low) lows j
 
-  pub none-fed : areParts c (length input) (length old) ≡ true → HasWindows l → SomeFed old (l .windows) noneClipped 0
+  pub none-fed : areParts c (length input) (length old) ≡ true → HasWindows l → SomeFed old (l .windows) noneClipped noneClipped 0
   none-fed p w = record {
     parts = p;
     has = w;
     most = omega arith;
     outputs = sym (each-none (leftLane l c input old) 0 old);
     kept = sym (each-none windowAt 0 (l .windows));
-    held = sym (each-none clipsAt 0 noneClipped);
+    high = sym (each-none (countAt (λ k. k .high)) 0 noneClipped);
+    low = sym (each-none (countAt (λ k. k .low)) 0 noneClipped);
   }
 
-module _ {l : Lanes} {c : ℕ} {input old output windows : List ℤ} {clips : List ℕ} {j : ℕ} (some : SomeFed l c input old output windows clips j) where
+module _ {l : Lanes} {c : ℕ} {input old output windows : List ℤ} {highs lows : List ℕ} {j : ℕ} (some : SomeFed l c input old output windows highs lows j) where
   q : Parted c (length input) (length old)
   q = parts-are c (length input) (length old) (some .parts)
 
@@ -119,8 +125,8 @@ module _ {l : Lanes} {c : ℕ} {input old output windows : List ℤ} {clips : Li
   pub windows-length : length windows ≡ 64
   windows-length = ap length (some .kept) ∙ front-long (windowAt l c input old) 4 c window-size j (some .most) (l .windows) (omega (arith, some .has, q .below)) ∙ some .has
 
-  clips-length : length clips ≡ 16
-  clips-length = ap length (some .held) ∙ front-long (clipsAt l c input old) 1 c (λ i k. refl) j (some .most) noneClipped (omega (arith, q .below))
+  counts-length : (side : Clips → ℕ) {ns : List ℕ} → Counted l c input old side ns j → length ns ≡ 16
+  counts-length side e = ap length e ∙ front-long (countAt l c input old side) 1 c (λ i k. refl) j (some .most) noneClipped (omega (arith, q .below))
 
   -- ---- lane j
   module _ (h : j < c) where
@@ -164,9 +170,14 @@ module _ {l : Lanes} {c : ℕ} {input old output windows : List ℤ} {clips : Li
       unfolding leftLane
       left-is = here .buffer ∙ ap (λ k. over (outputsOf (laneOf l j) (lanePart c j input) k) (lanePart c j old)) places
 
-      pub one-fed : {ws : List ℤ} {n : ℕ} → ws ≡ replaced windowLength j (f .state .window) windows → n ≡ total (f .counts .clips)
-          → SomeFed l c input old (handedBack (length old / c) (j * (length old / c)) left output) ws (set clips j n) (j + 1)
-      one-fed {ws} {n} w t = record {
+      count-next : (side : Clips → ℕ) {ns : List ℕ} → Counted l c input old side ns j → Counted l c input old side (set ns j (side (f .counts .clips))) (j + 1)
+      count-next side {ns} e =
+          one-stored ns j (side (f .counts .clips)) (omega (arith, counts-length side e, q .below))
+          ∙ front-next (countAt l c input old side) 1 c (λ i k. refl) j h noneClipped e (ap (λ (g : Fed). side (g .counts .clips) ∷ []) answered)
+
+      pub one-fed : {ws : List ℤ} → ws ≡ replaced windowLength j (f .state .window) windows
+          → SomeFed l c input old (handedBack (length old / c) (j * (length old / c)) left output) ws (set highs j (f .counts .clips .high)) (set lows j (f .counts .clips .low)) (j + 1)
+      one-fed {ws} w = record {
         parts = some .parts;
         has = some .has;
         most = omega arith;
@@ -174,20 +185,22 @@ module _ {l : Lanes} {c : ℕ} {input old output windows : List ℤ} {clips : Li
             let m : ℕ = length old / c in
             handed-back m (j * m) left output ∙ front-next (leftLane l c input old) m c left-size j h old (some .outputs) left-is;
         kept = w ∙ front-next (windowAt l c input old) 4 c window-size j h (l .windows) (some .kept) (ap (λ (g : Fed). g .state .window) answered);
-        held =
-            one-stored clips j n (omega (arith, clips-length, q .below))
-            ∙ front-next (clipsAt l c input old) 1 c (λ i k. refl) j h noneClipped (some .held) (ap (λ k. k ∷ []) t ∙ ap (λ (g : Fed). total (g .counts .clips) ∷ []) answered);
+        high = count-next (λ k. k .high) (some .high);
+        low = count-next (λ k. k .low) (some .low);
       }
 
-  -- ---- all lanes fed: what they share is as any one's answer f has it
+  -- ---- all lanes fed
+  counts-all : (side : Clips → ℕ) {ns : List ℕ} → Counted l c input old side ns j → j ≡ c → Counted l c input old side ns c
+  counts-all side e z = e ∙ ap (λ k. over (each (countAt l c input old side) k) noneClipped) z
+
+  -- what they share is as any one's answer f has it
   pub all-fed : j ≡ c → {i : ℕ} → i < c → {f : Fed} {m : Lanes} → f ≡ fedAt l c input old i → m ≡ lanesOf (f .state) windows
-      → (record { lanes = m; taken = f .counts .taken; written = f .counts .written; clips = clips; end = f .counts .end; refusal = 0 } ≡ acceptedLanes l c input (length old))
+      → (record { lanes = m; taken = f .counts .taken; written = f .counts .written; highs = highs; lows = lows; end = f .counts .end; refusal = 0 } ≡ acceptedLanes l c input (length old))
       × (output ≡ each (leftLane l c input old) c)
   unfolding acceptedLanes
   all-fed z {i} h {f} {m} t e =
       let a = lanes-alike l c input (length old) (some .parts) i 0 h (q .above) in
       let ws : windows ≡ over (each (windowAt l c input old) c) (l .windows) = some .kept ∙ ap (λ k. over (each (windowAt l c input old) k) (l .windows)) z in
-      let cs : clips ≡ over (each (clipsAt l c input old) c) noneClipped = some .held ∙ ap (λ k. over (each (clipsAt l c input old) k) noneClipped) z in
       let lanes : m ≡ lanesOf (fedAt l c input old 0 .state) (over (each (windowAt l c input old) c) (l .windows))
       = e ∙ (λ k. lanesOf (t k .state) (ws k)) ∙ a .state (over (each (windowAt l c input old) c) (l .windows)) in
       let all = each-length (leftLane l c input old) (length old / c) c left-size in (
@@ -195,7 +208,8 @@ module _ {l : Lanes} {c : ℕ} {input old output windows : List ℤ} {clips : Li
           lanes = lanes k;
           taken = (ap (λ (g : Fed). g .counts .taken) t ∙ a .taken) k;
           written = (ap (λ (g : Fed). g .counts .written) t ∙ a .written) k;
-          clips = cs k;
+          highs = counts-all (λ k. k .high) (some .high) z k;
+          lows = counts-all (λ k. k .low) (some .low) z k;
           end = (ap (λ (g : Fed). g .counts .end) t ∙ a .end) k;
           refusal = 0;
         },

@@ -2,7 +2,6 @@
 use converter::feed;
 use converter_spec::End;
 use converter_state::is_state;
-use kernels::total_clips;
 use lanes_spec::FedLanes;
 use lanes_state::Lanes;
 use lanes_state::with_windows;
@@ -23,7 +22,8 @@ fn refuse_lanes(lanes: Lanes, refusal: u8) -> FedLanes
         lanes: lanes,
         taken: 0,
         written: 0,
-        clips: [0usize; 16],
+        highs: [0usize; 16],
+        lows: [0usize; 16],
         end: End::Hungry,
         refusal: refusal,
     }
@@ -65,7 +65,8 @@ fn feed_each(lanes: Lanes, count: usize, input: &[i16], output: &mut [i16]) -> F
     let n = input.len() / count;
     let m = output.len() / count;
     let mut windows = lanes.windows;
-    let mut clips = [0usize; 16];
+    let mut highs = [0usize; 16];
+    let mut lows = [0usize; 16];
     let mut i: usize = 0;
     loop {
         let lane = lanes.lane(i);
@@ -78,8 +79,9 @@ fn feed_each(lanes: Lanes, count: usize, input: &[i16], output: &mut [i16]) -> F
         let window = state.window;
         keep(&mut windows, i, window);
         let counts = fed.counts;
-        let held = total_clips(counts.clips);
-        clips[i] = held;
+        let clips = counts.clips;
+        highs[i] = clips.high;
+        lows[i] = clips.low;
         i += 1;
         if i == count {
             let end = counts.end;
@@ -88,7 +90,8 @@ fn feed_each(lanes: Lanes, count: usize, input: &[i16], output: &mut [i16]) -> F
                 lanes: after,
                 taken: counts.taken,
                 written: counts.written,
-                clips: clips,
+                highs: highs,
+                lows: lows,
                 end: end,
                 refusal: 0,
             };

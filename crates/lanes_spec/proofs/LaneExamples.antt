@@ -10,8 +10,8 @@ use Rattle.oscillator_spec.specs.Word.{isWord, inRange}
 use Rattle.oscillator_spec.specs.Position.{basepoint, fraction, fourteenBits}
 use Rattle.oscillator_spec.specs.Register.{registerOf, stepped, carryOf, advanceOf}
 use Rattle.kernels_spec.specs.Kernel.{−, kernelOf}
-use Rattle.kernels_spec.specs.Clips.{noClips, oneClip, plus, total}
-use Rattle.kernels_spec.specs.Value.{column, polynomial, numerator, unit, nearestWhole, rounded, held, output, outside, clipsOf, clips, filterFraction, windowAt, outputOf, clipOf}
+use Rattle.kernels_spec.specs.Clips.{noClips, plus}
+use Rattle.kernels_spec.specs.Value.{column, polynomial, numerator, unit, nearestWhole, rounded, held, output, isHigh, isLow, clipsOf, clips, filterFraction, windowAt, outputOf, clipOf}
 use Rattle.converter_state.specs.Start.{isKernel, isState, lastRead, neededAt, started}
 use Rattle.converter_spec.specs.Feeding.{HUNGRY, advanced, taking, rule, fedOf, outputsOf}
 use Rattle.lanes_state.specs.declared.lanes.Lanes.{Lanes}
@@ -46,7 +46,7 @@ samples = pos 0 ∷ pos 100 ∷ pos 40 ∷ pos 10 ∷ pos 20 ∷ − 20 ∷ []
 -- "0, 50, 100, 70" and 10, 15, 20, 0, each at the front of its part
 pub two-lanes-left : leftLanesOf begun 2 samples (replicate 10 (pos 7))
     ≡ pos 0 ∷ pos 50 ∷ pos 100 ∷ pos 70 ∷ pos 7 ∷ pos 10 ∷ pos 15 ∷ pos 20 ∷ pos 0 ∷ pos 7 ∷ []
-unfolding leftLanesOf leftLane isLanes laneOf lanesOf allSilent startedLanes areParts each isWord inRange basepoint fraction fourteenBits registerOf stepped carryOf advanceOf kernelOf column polynomial numerator unit nearestWhole rounded held output outside clipsOf clips filterFraction windowAt outputOf clipOf noClips oneClip plus total isKernel isState lastRead neededAt started advanced taking rule fedOf outputsOf
+unfolding leftLanesOf leftLane isLanes laneOf lanesOf allSilent startedLanes areParts each isWord inRange basepoint fraction fourteenBits registerOf stepped carryOf advanceOf kernelOf column polynomial numerator unit nearestWhole rounded held output isHigh isLow clipsOf clips filterFraction windowAt outputOf clipOf noClips plus isKernel isState lastRead neededAt started advanced taking rule fedOf outputsOf
 two-lanes-left = refl
 
 -- each took three and wrote four; the fourteen other windows are as they were, and no lane clipped
@@ -60,9 +60,17 @@ pub two-lanes-fed : fedLanesOf begun 2 samples 10 ≡ record {
   };
   taken = 3;
   written = 4;
-  clips = replicate 16 0;
+  highs = replicate 16 0;
+  lows = replicate 16 0;
   end = HUNGRY;
   refusal = 0;
 }
-unfolding fedLanesOf acceptedLanes fedLane isLanes laneOf lanesOf allSilent startedLanes areParts each isWord inRange basepoint fraction fourteenBits registerOf stepped carryOf advanceOf kernelOf column polynomial numerator unit nearestWhole rounded held output outside clipsOf clips filterFraction windowAt outputOf clipOf noClips oneClip plus total isKernel isState lastRead neededAt started advanced taking rule fedOf outputsOf
+unfolding fedLanesOf acceptedLanes fedLane isLanes laneOf lanesOf allSilent startedLanes areParts each isWord inRange basepoint fraction fourteenBits registerOf stepped carryOf advanceOf kernelOf column polynomial numerator unit nearestWhole rounded held output isHigh isLow clipsOf clips filterFraction windowAt outputOf clipOf noClips plus isKernel isState lastRead neededAt started advanced taking rule fedOf outputsOf
 two-lanes-fed = refl
+
+-- ---- two lanes that clip: the cubic, halfway between samples; lane 0 is above the limit twice, lane 1 below it once, and the fourteen others report none
+pub two-sides :
+    let fed = fedLanesOf (startedLanes 3 (Word (2 ^ 32)) (2 ^ 31) .lanes) 2 (pos 32767 ∷ pos 32767 ∷ pos 32767 ∷ pos 0 ∷ − 32768 ∷ − 32768 ∷ pos 0 ∷ pos 0 ∷ []) 4 in
+    (fed .highs ≡ 2 ∷ replicate 15 0) × (fed .lows ≡ 0 ∷ 1 ∷ replicate 14 0)
+unfolding fedLanesOf acceptedLanes fedLane isLanes laneOf lanesOf allSilent startedLanes areParts each isWord inRange basepoint fraction fourteenBits registerOf stepped carryOf advanceOf kernelOf column polynomial numerator unit nearestWhole rounded held output isHigh isLow clipsOf clips filterFraction windowAt outputOf clipOf noClips plus isKernel isState lastRead neededAt started advanced taking rule fedOf outputsOf
+two-sides = (refl, refl)

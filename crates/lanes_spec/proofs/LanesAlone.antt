@@ -15,7 +15,8 @@ use Rattle.integers.specs.Table.{both}
 use Rattle.bytes_spec.specs.Overwritten.{over}
 use Rattle.bytes_spec.proofs.Overwriting.{over-long}
 use Rattle.kernels_spec.specs.declared.clips.Clips.{Clips}
-use Rattle.kernels_spec.specs.Clips.{noClips, total}
+use Rattle.kernels_spec.specs.Clips.{clipCounts, noClips}
+use Rattle.kernels_spec.proofs.Counting.{is-none, is-none-low}
 use Rattle.converter_state.specs.declared.state.State.{State}
 use Rattle.converter_state.specs.Start.{stateOf, isState}
 use Rattle.converter_spec.specs.declared.feeding.Fed.{Fed}
@@ -116,20 +117,41 @@ left-length l c input old p i h =
     let s = fed-sizes (laneOf l i) (lanePart c i input) (length old / c) .2 in
     over-long (outputsOf (laneOf l i) (lanePart c i input) (length old / c)) (lanePart c i old) (omega (arith, s, e)) ∙ e
 
+-- c lists of n over a longer one
+over-each : {A : Type 0} (f : ℕ → List A) (n c : ℕ) → ((i : ℕ) → i < c → length (f i) ≡ n) → (ys : List A) → c * n ≤ length ys → length (over (each f c) ys) ≡ length ys
+over-each f n c s ys h = over-long (each f c) ys (omega (arith, each-length f n c s, h))
+
 -- ---- clip counts, by their place and by their part of one
 at-part : (ns : List ℕ) (i : ℕ) → getD ns i 0 ≡ getD (part 1 i ns) 0 0
 at-part ns i =
     let e : i ≡ i * 1 + 0 = omega arith in
     ap (λ k. getD ns k 0) e ∙ sym (getD-drop (i * 1) ns 0 0) ∙ sym (getD-take 1 (drop (i * 1) ns) 0 0 (omega arith))
 
-clips-back : (k : Clips) → record { held = total k } ≡ k
-unfolding total
-clips-back k = refl
-
 zero-at : (n i : ℕ) → _≡_ {A = ℕ} (getD (replicate n 0) i 0) 0
 zero-at zero i = refl
 zero-at (suc n) zero = refl
 zero-at (suc n) (suc i) = zero-at n i
+
+-- one side of the lanes' counts as an array: g 0, g 1, and so on, c of them, and zeros past them
+module _ (g : ℕ → ℕ) (c : ℕ) where
+  abbrev one : ℕ → List ℕ
+  one i = g i ∷ []
+
+  abbrev side : List ℕ
+  side = over (each one c) noneClipped
+
+  side-in : (i : ℕ) → i < c → getD side i 0 ≡ g i
+  side-in i h = at-part side i ∙ ap (λ ns. getD ns 0 0) (part-each one 1 c (λ j k. refl) i h (drop (length (each one c)) noneClipped))
+
+  side-past : (i : ℕ) → c ≤ i → getD side i 0 ≡ 0
+  side-past i h = at-part side i ∙ ap (λ ns. getD ns 0 0) (part-past one 1 c (λ j k. refl) noneClipped i h) ∙ sym (at-part noneClipped i) ∙ zero-at laneLimit i
+
+  side-long : c ≤ laneLimit → length side ≡ laneLimit
+  side-long h = over-each one 1 c (λ j k. refl) noneClipped (omega arith)
+
+-- none on either side
+no-sides : (k : Clips) → k .high ≡ 0 → k .low ≡ 0 → k ≡ noClips
+no-sides k h l = is-none k (is-none-low k h ∙ eq-eqb (k .low) 0 l)
 
 -- ---- each lane alone
 lane-made : (s : State) (ws : List ℤ) (i : ℕ) → part windowLength i ws ≡ s .window → laneOf (lanesOf s ws) i ≡ s
@@ -156,10 +178,7 @@ module _ (l : Lanes) (w : HasWindows l) (g : isLanes l ≡ true) (c : ℕ) (inpu
 
   clips-in : (i : ℕ) → i < c → laneClips all-fed i ≡ each-fed i .counts .clips
   unfolding acceptedLanes laneClips
-  clips-in i h =
-      let one : ℕ → List ℕ = λ j. total (each-fed j .counts .clips) ∷ [] in
-      let e = part-each one 1 c (λ j k. refl) i h (drop (length (each one c)) noneClipped) in
-      ap (λ n. record { held = n }) (at-part (all-fed .clips) i ∙ ap (λ ns. getD ns 0 0) e) ∙ clips-back (each-fed i .counts .clips)
+  clips-in i h = λ t. clipCounts (side-in (λ j. each-fed j .counts .clips .high) c i h t) (side-in (λ j. each-fed j .counts .clips .low) c i h t)
 
   lane-alone : (i : ℕ) → i < c → laneFed all-fed i ≡ each-fed i
   unfolding laneFed acceptedLanes lanesOf
@@ -203,19 +222,16 @@ module _ (l : Lanes) (w : HasWindows l) (g : isLanes l ≡ true) (c : ℕ) (inpu
   alone-kept i h = part-past (λ j. each-fed j .state .window) 4 c (window-length l w c input (length old) p) (l .windows) i h
 
   alone-silent : (i : ℕ) → c ≤ i → laneClips all-fed i ≡ noClips
-  unfolding acceptedLanes laneClips noClips
-  alone-silent i h =
-      let one : ℕ → List ℕ = λ j. total (each-fed j .counts .clips) ∷ [] in
-      let e = part-past one 1 c (λ j k. refl) noneClipped i h in
-      ap (λ n. record { held = n }) (at-part (all-fed .clips) i ∙ ap (λ ns. getD ns 0 0) e ∙ sym (at-part noneClipped i) ∙ zero-at 16 i)
+  unfolding acceptedLanes laneClips
+  alone-silent i h = no-sides (laneClips all-fed i) (side-past (λ j. each-fed j .counts .clips .high) c i h) (side-past (λ j. each-fed j .counts .clips .low) c i h)
 
   alone-accepted : Alone l c input old (fedLanesOf l c input (length old)) (leftLanesOf l c input old)
   alone-accepted = rw (answer-is, left-is) (record { fed = alone-fed; kept = alone-kept; silent = alone-silent })
 
 -- refused with 5, as each lane alone is
 silent-refused : (l : Lanes) (n i : ℕ) → laneClips (refusedLanes l n) i ≡ noClips
-unfolding laneClips noClips
-silent-refused l n i = ap (λ k. record { held = k }) (zero-at 16 i)
+unfolding laneClips
+silent-refused l n i = no-sides (laneClips (refusedLanes l n) i) (zero-at laneLimit i) (zero-at laneLimit i)
 
 alone-refused : (l : Lanes) → isLanes l ≡ false → (c : ℕ) (input old : List ℤ) → Alone l c input old (refusedLanes l 5) old
 unfolding laneFed
@@ -243,10 +259,6 @@ pub each-lane-alone : EachLaneAlone
 each-lane-alone l w c input old p a left h = rw (h .answer, h .buffer) (alone l w c input old p)
 
 -- ---- arrays stay as long as they are
--- c lists of n over a longer one
-over-each : {A : Type 0} (f : ℕ → List A) (n c : ℕ) → ((i : ℕ) → i < c → length (f i) ≡ n) → (ys : List A) → c * n ≤ length ys → length (over (each f c) ys) ≡ length ys
-over-each f n c s ys h = over-long (each f c) ys (omega (arith, each-length f n c s, h))
-
 pub fed-windows : (l : Lanes) → HasWindows l → (c : ℕ) (input : List ℤ) (space : ℕ) → HasWindows (fedLanesOf l c input space .lanes)
 unfolding fedLanesOf acceptedLanes lanesOf
 fed-windows l w c input space = by-tests (isLanes l) (areParts c (length input) space) refl
@@ -260,15 +272,21 @@ fed-windows l w c input space = by-tests (isLanes l) (areParts c (length input) 
     by-tests true false e = w
     by-tests false d e = w
 
-pub fed-clips : (l : Lanes) (c : ℕ) (input : List ℤ) (space : ℕ) → length (fedLanesOf l c input space .clips) ≡ laneLimit
+-- the two arrays of counts, sixteen each
+pub record HasCounts (a : FedLanes) : Type 0 where
+  pub highs : length (a .highs) ≡ laneLimit
+  pub lows : length (a .lows) ≡ laneLimit
+
+pub fed-clips : (l : Lanes) (c : ℕ) (input : List ℤ) (space : ℕ) → HasCounts (fedLanesOf l c input space)
 unfolding fedLanesOf acceptedLanes
 fed-clips l c input space = by-tests (isLanes l) (areParts c (length input) space) refl
   where
-    by-tests : (b d : Bool) → areParts c (length input) space ≡ d → length (cond b (cond d (acceptedLanes l c input space) (refusedLanes l 13)) (refusedLanes l 5) .clips) ≡ laneLimit
+    by-tests : (b d : Bool) → areParts c (length input) space ≡ d → HasCounts (cond b (cond d (acceptedLanes l c input space) (refusedLanes l 13)) (refusedLanes l 5))
     by-tests true true e =
-        over-each (λ i. total (fedLane l c input space i .counts .clips) ∷ []) 1 c (λ i k. refl) noneClipped (omega (arith, parts-are c (length input) space e .below))
-    by-tests true false e = refl
-    by-tests false d e = refl
+        let few = parts-are c (length input) space e .below in
+        record { highs = side-long (λ i. fedLane l c input space i .counts .clips .high) c few; lows = side-long (λ i. fedLane l c input space i .counts .clips .low) c few }
+    by-tests true false e = record { highs = refl; lows = refl }
+    by-tests false d e = record { highs = refl; lows = refl }
 
 -- and the output buffer, where a call is refused too
 pub left-lanes-length : (l : Lanes) (c : ℕ) (input old : List ℤ) → length (leftLanesOf l c input old) ≡ length old
@@ -282,7 +300,7 @@ left-lanes-length l c input old = by-tests (isLanes l) (areParts c (length input
 
 -- ---- the other way: what has each lane alone, in arrays as long as they are, is the answer
 pub alone-right : (l : Lanes) → HasWindows l → (c : ℕ) (input old : List ℤ) → areParts c (length input) (length old) ≡ true
-    → (a : FedLanes) (left : List ℤ) → HasWindows (a .lanes) → length (a .clips) ≡ laneLimit → length left ≡ length old → Alone l c input old a left → FedLanesRight l c input old a left
+    → (a : FedLanes) (left : List ℤ) → HasWindows (a .lanes) → HasCounts a → length left ≡ length old → Alone l c input old a left → FedLanesRight l c input old a left
 unfolding laneFed laneOf laneClips
 alone-right l w c input old p a left v n m h =
     let b : FedLanes = fedLanesOf l c input (length old) in
@@ -293,9 +311,11 @@ alone-right l w c input old p a left v n m h =
     let windows : a .lanes .windows ≡ b .lanes .windows
     = same-parts 4 16 (a .lanes .windows) (b .lanes .windows) v (fed-windows l w c input (length old))
     (λ i k. ⊎-elim (λ x. ap (λ (f : Fed). f .state .window) (fed i x)) (λ x. h .kept i x ∙ sym (d .kept i x)) (below i c)) in
-    let clips : a .clips ≡ b .clips
-    = ext-getD 0 (a .clips) (b .clips) (n ∙ sym (fed-clips l c input (length old)))
-    (λ i k. ⊎-elim (λ x. ap (λ (f : Fed). f .counts .clips .held) (fed i x)) (λ x. ap (λ (y : Clips). y .held) (h .silent i x ∙ sym (d .silent i x))) (below i c)) in
+    let o : HasCounts b = fed-clips l c input (length old) in
+    let clips : (i : ℕ) → laneClips a i ≡ laneClips b i
+    = λ i. ⊎-elim (λ x. ap (λ (f : Fed). f .counts .clips) (fed i x)) (λ x. h .silent i x ∙ sym (d .silent i x)) (below i c) in
+    let highs : a .highs ≡ b .highs = ext-getD 0 (a .highs) (b .highs) (n .highs ∙ sym (o .highs)) (λ i k. ap (λ (y : Clips). y .high) (clips i)) in
+    let lows : a .lows ≡ b .lows = ext-getD 0 (a .lows) (b .lows) (n .lows ∙ sym (o .lows)) (λ i k. ap (λ (y : Clips). y .low) (clips i)) in
     let first = fed 0 (q .above) in
     let lanes : a .lanes ≡ b .lanes = sym (lanes-lane (a .lanes)) ∙ (λ t. lanesOf (first t .state) (windows t)) ∙ lanes-lane (b .lanes) in
     record {
@@ -303,7 +323,8 @@ alone-right l w c input old p a left v n m h =
         lanes = lanes t;
         taken = first t .counts .taken;
         written = first t .counts .written;
-        clips = clips t;
+        highs = highs t;
+        lows = lows t;
         end = first t .counts .end;
         refusal = first t .refusal;
       };

@@ -50,7 +50,7 @@ pub record PartsBut (k c : ℕ) (xs ys : List ℤ) : Type 0 where
   pub others : (i : ℕ) → (i ≡ k → ⊥) → lanePart c i xs ≡ lanePart c i ys
 
 -- two calls that were given the same but for lane k, and two that answered the same but for lane k. Of a feed that is refusal, what lanes share, taken, written and end, and of every other
--- lane window, clip count and part of the buffer
+-- lane window, clip counts and part of the buffer
 abbrev pub GivenBut : ℕ → LaneCall → LaneCall → Type 0
 GivenBut k (feed c input old a left) (feed d other held b kept) = (c ≡ d) × PartsBut k c input other × PartsBut k c old held
 GivenBut k (feed c input old a left) (retune t q) = ⊥
@@ -94,7 +94,7 @@ unfoldable pub ReachesAll : ℕ → List LaneCall → Type 0
 ReachesAll i [] = Unit {0}
 ReachesAll i (c ∷ cs) = Reaches i c × ReachesAll i cs
 
--- the call that lane i saw: its part of the input and of the buffer, and its window and clip count of the answer
+-- the call that lane i saw: its part of the input and of the buffer, and its window and clip counts of the answer
 abbrev pub callOn : ℕ → LaneCall → Call
 callOn i (feed c input old a left) = alone.feed (lanePart c i input) (lanePart c i old) (laneFed a i) (lanePart c i left)
 callOn i (retune s r) = alone.retune s (laneRetuned r i)

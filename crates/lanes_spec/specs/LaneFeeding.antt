@@ -8,7 +8,7 @@ use lib.IntN.{ℤ}
 use lib.ListN.{length, replicate, getD}
 use Rattle.bytes_spec.specs.Overwritten.{over}
 use Rattle.kernels_spec.specs.declared.clips.Clips.{Clips}
-use Rattle.kernels_spec.specs.Clips.{noClips, total}
+use Rattle.kernels_spec.specs.Clips.{clipCounts, noClips}
 use Rattle.converter_spec.specs.declared.feeding.Fed.{Fed}
 use Rattle.converter_spec.specs.Feeding.{HUNGRY, counts, fedOf, outputsOf, FedRight}
 use Rattle.lanes_state.specs.declared.lanes.Lanes.{Lanes}
@@ -16,13 +16,13 @@ use Rattle.lanes_state.specs.Parts.{part, lanePart, each}
 use Rattle.lanes_state.specs.Lanes.{laneLimit, windowLength, laneOf, lanesOf, isLanes}
 use Rattle.lanes_spec.specs.declared.feeding.FedLanes.{FedLanes}
 
--- ---- clip counts, one after another in an array
+-- ---- the clip counts of one side, lane by lane: `highs` and `lows` are two such arrays
 abbrev pub noneClipped : List ℕ
 noneClipped = replicate laneLimit 0
 
--- the count of lane i
+-- the two counts of lane i (request U5: "the lane call two for each lane")
 unfoldable pub laneClips : FedLanes → ℕ → Clips
-laneClips a i = record { held = getD (a .clips) i 0 }
+laneClips a i = clipCounts (getD (a .highs) i 0) (getD (a .lows) i 0)
 
 -- ---- each lane alone
 -- "The outcome equals feeding each lane alone, lane by lane": what a feed of lane i alone answers and writes, over its part of the input and with its part of the space, and how it leaves
@@ -50,14 +50,15 @@ acceptedLanes l c input space =
       lanes = lanesOf (f 0 .state) (over (each (λ i. f i .state .window) c) (l .windows));
       taken = f 0 .counts .taken;
       written = f 0 .counts .written;
-      clips = over (each (λ i. total (f i .counts .clips) ∷ []) c) noneClipped;
+      highs = over (each (λ i. f i .counts .clips .high ∷ []) c) noneClipped;
+      lows = over (each (λ i. f i .counts .clips .low ∷ []) c) noneClipped;
       end = f 0 .counts .end;
       refusal = 0;
     }
 
 -- "This and every later refusal hands back the state or slice that came, with counts 0"; its end is HUNGRY, as a feed's is (decision 30)
 abbrev pub refusedLanes : Lanes → ℕ → FedLanes
-refusedLanes l n = record { lanes = l; taken = 0; written = 0; clips = noneClipped; end = HUNGRY; refusal = n }
+refusedLanes l n = record { lanes = l; taken = 0; written = 0; highs = noneClipped; lows = noneClipped; end = HUNGRY; refusal = n }
 
 -- 13 "after 5"
 unfoldable pub fedLanesOf : Lanes → (count : ℕ) → (input : List ℤ) → (space : ℕ) → FedLanes

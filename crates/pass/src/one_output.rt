@@ -7,13 +7,12 @@ ghost use Rattle.pass_spec.specs.Pass.{MadeRight};
 pub fn make_output(kernel: u8, word: u64, register: u32, window: [i16; 4]) -> Made
     ensures { λ r. ⌜ MadeRight (stateOf kernel word register 0 window) r ⌝ }
 {
-    let e = kernels::evaluate(kernel, register, window);
+    let held = kernels::held_output(kernel, register, window);
     let new = oscillator::step(register, word);
     let advance = oscillator::advance(kernels::nearest(kernel), register, new, word);
-    let clips = e.clips;
     Made {
-        value: e.value,
-        clips: clips,
+        value: held.value,
+        excess: held.excess,
         register: new,
         advance: advance as usize,
     }

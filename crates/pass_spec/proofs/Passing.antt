@@ -14,6 +14,7 @@ use mir.Val.{boolByte}
 use Rattle.kernels_spec.specs.Kernel.{kernelOf}
 use Rattle.kernels_spec.specs.declared.clips.Clips.{Clips}
 use Rattle.kernels_spec.specs.Clips.{noClips, plus, total, isNone}
+use Rattle.kernels_spec.specs.Excess.{excessClips}
 use Rattle.kernels_spec.proofs.Counting.{none-plus, plus-none, total-none, total-plus, is-none, some-more}
 use Rattle.kernels_spec.proofs.Card.{clip-most}
 use Rattle.converter_state.specs.declared.state.State.{State}
@@ -152,7 +153,7 @@ module _ {A : Type 0} (L : Layout A) where
 
       -- an output written, and samples taken up to the next one, by what the loop's call ensures
       pub pass-turn : {m : Made} {ys' : List A} → MadeRight S m → ys' ≡ ys ++ L .entries (m .value)
-          → Passed L s xs space ys' (m .register) (at + m .advance) (written + 1) (plus clips (m .clips))
+          → Passed L s xs space ys' (m .register) (at + m .advance) (written + 1) (plus clips (excessClips (m .excess)))
       pass-turn h e = rw (e, h .value, h .clips, h .register, h .advance) turn
 
 -- ---- over a buffer
@@ -179,7 +180,7 @@ module _ {A : Type 0} {L : Layout A} {s : State} {xs : List ℤ} {old : List A} 
 
   pub passing-turn : {left left' : List A} {q at written : ℕ} {clips : Clips} → Passing L s xs old left q at written clips → at ≤ lastPlace xs → written < room L left → s .word ≤ 2 ^ 34
       → {m : Made} → MadeRight (movedTo s q 0 (windowFrom xs at)) m → Stored L left written (m .value) left'
-      → Passing L s xs old left' (m .register) (at + m .advance) (written + 1) (plus clips (m .clips))
+      → Passing L s xs old left' (m .register) (at + m .advance) (written + 1) (plus clips (excessClips (m .excess)))
   passing-turn {left} {left'} {q} {at} {written} p inside space below {m} h st =
       let n : ℕ = written * L .width in
       let e : (written + 1) * L .width ≡ n + L .width = omega arith in
@@ -216,11 +217,11 @@ module _ {A : Type 0} {L : Layout A} {k w : ℕ} {xs : List ℤ} {mid : List A} 
   pub stretching-turn : 4 ≤ length xs → w ≤ 2 ^ 34 → {left left' : List A} {q at written : ℕ} {last : Clips} → Stretching L k w xs mid q₀ at₀ n₀ left q at written last
       → isNone last ≡ true → at ≤ lastPlace xs → written < room L left
       → {window : List ℤ} {m : Made} → window ≡ windowFrom xs at → MadeRight (stateOf k w q 0 window) m → Stored L left written (m .value) left'
-      → Stretching L k w xs mid q₀ at₀ n₀ left' (m .register) (at + m .advance) (written + 1) (m .clips)
+      → Stretching L k w xs mid q₀ at₀ n₀ left' (m .register) (at + m .advance) (written + 1) (excessClips (m .excess))
   stretching-turn four below {left} {left'} {q} {at} {written} {last} t none inside space {window} {m} ew h st =
       let S : State = stateOf k w q 0 window in
       let far : m .advance ≤ 4 = advance-most (t .low) below h in
-      let one : total (m .clips) ≤ 1 = rw (h .clips) (clip-most (kernelOf k) q window) in
+      let one : total (excessClips (m .excess)) ≤ 1 = rw (h .clips) (clip-most (kernelOf k) q window) in
       let nothing = is-none last none in
       record {
         low = rw (h .register) (register-past S);

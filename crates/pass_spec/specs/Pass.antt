@@ -9,7 +9,8 @@ use lib.Dec.{leb}
 use lib.IntN.{ℤ, pos}
 use lib.ListN.{length, take, drop, getD}
 use Rattle.kernels_spec.specs.declared.clips.Clips.{Clips}
-use Rattle.kernels_spec.specs.Clips.{noClips, plus, total, isNone}
+use Rattle.kernels_spec.specs.Clips.{plus, total, isNone}
+use Rattle.kernels_spec.specs.Excess.{excessClips}
 use Rattle.converter_state.specs.declared.state.State.{State}
 use Rattle.converter_spec.specs.declared.feeding.Fed.{Fed}
 use Rattle.converter_spec.specs.declared.feeding.Counts.{Counts}
@@ -23,7 +24,7 @@ use Rattle.pass_spec.specs.declared.progress.Made.{Made}
 -- what is due at the state s: its value and its clip or none, and what the state comes to past it
 pub record MadeRight (s : State) (m : Made) : Type 0 where
   pub value : m .value ≡ outputNext s
-  pub clips : m .clips ≡ clipNext s
+  pub clips : excessClips (m .excess) ≡ clipNext s
   pub register : m .register ≡ advanced s .register
   pub advance : m .advance ≡ advanced s .needed
 

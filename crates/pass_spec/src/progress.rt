@@ -10,10 +10,10 @@ pub struct Progress {
     pub clips: Clips,
 }
 
-// An output with its clip or none, and the output after it: its register, and by how many samples its window begins later.
+// An output, by how much it was held, and the output after it: its register, and by how many samples its window begins later.
 pub struct Made {
     pub value: i16,
-    pub clips: Clips,
+    pub excess: i64,
     pub register: u32,
     pub advance: usize,
 }

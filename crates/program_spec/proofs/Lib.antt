@@ -1,3 +1,4 @@
+pub mod EndSums
 pub mod LinesWritten
 pub mod Input
 pub mod Outputs

@@ -6,7 +6,7 @@ use Rattle.oscillator_spec.specs.Word.{isWord}
 use Rattle.oscillator_spec.specs.Position.{basepoint, fraction, fourteenBits}
 use Rattle.kernels_spec.specs.Kernel.{kernelOf}
 use Rattle.kernels_spec.specs.Clips.{noClips, plus, total}
-use Rattle.kernels_spec.specs.Value.{column, polynomial, numerator, unit, nearestWhole, rounded, held, output, outside, clipsOf, clips, joinedAt, filterFraction, value, valueClips}
+use Rattle.kernels_spec.specs.Value.{column, polynomial, numerator, unit, nearestWhole, rounded, held, output, isHigh, isLow, outside, clipsOf, clips, joinedAt, filterFraction, value, valueClips}
 use Rattle.converter_state.specs.Start.{isKernel, lastRead}
 use Rattle.converter_spec.specs.Paper.{countIn, count}
 use Rattle.converter_spec.specs.Demand.{clipsAt}
@@ -41,11 +41,11 @@ refusals = (refl, refl, refl)
 -- `0000`, `0032`, `0064`, `0046` and `E00000000000000040000000000000000`, a line each
 pub half-word : program (start 15 ++ frame) ≡ zeros 4 ++
     (10 ∷ 48 ∷ 48 ∷ 51 ∷ 50 ∷ 10 ∷ 48 ∷ 48 ∷ 54 ∷ 52 ∷ 10 ∷ 48 ∷ 48 ∷ 52 ∷ 54 ∷ 10 ∷ 69 ∷ (zeros 15 ++ (52 ∷ (zeros 16 ++ (10 ∷ [])))))
-unfolding before10 lineEnd hasEnd digitValue allDigits numberAfter byteSum digitOf digitsOf afterLetter lineDigits startOf startLine isKernel isWord frameSamples hasLength checkHolds isNext frameOf dataLine kernelOf basepoint fraction fourteenBits column polynomial numerator unit nearestWhole rounded held output outside noClips plus total clipsOf clips joinedAt filterFraction value valueClips lastRead countIn count clipsAt outputLine outputLines endLine refusalLine receivedIn received converts program
+unfolding before10 lineEnd hasEnd digitValue allDigits numberAfter byteSum digitOf digitsOf afterLetter lineDigits startOf startLine isKernel isWord frameSamples hasLength checkHolds isNext frameOf dataLine kernelOf basepoint fraction fourteenBits column polynomial numerator unit nearestWhole rounded held output isHigh isLow outside noClips plus total clipsOf clips joinedAt filterFraction value valueClips lastRead countIn count clipsAt outputLine outputLines endLine refusalLine receivedIn received converts program
 half-word = refl
 
 -- the same line sent twice: the outputs of the first, and `R15` (request U4)
 pub sent-twice : program (start 15 ++ (frame ++ frame)) ≡ zeros 4 ++
     (10 ∷ 48 ∷ 48 ∷ 51 ∷ 50 ∷ 10 ∷ 48 ∷ 48 ∷ 54 ∷ 52 ∷ 10 ∷ 48 ∷ 48 ∷ 52 ∷ 54 ∷ 10 ∷ 82 ∷ 49 ∷ 53 ∷ 10 ∷ [])
-unfolding before10 lineEnd hasEnd digitValue allDigits numberAfter byteSum digitOf digitsOf afterLetter lineDigits startOf startLine isKernel isWord frameSamples hasLength checkHolds isNext frameOf dataLine kernelOf basepoint fraction fourteenBits column polynomial numerator unit nearestWhole rounded held output outside noClips plus total clipsOf clips joinedAt filterFraction value valueClips lastRead countIn count clipsAt outputLine outputLines endLine refusalLine receivedIn received converts program
+unfolding before10 lineEnd hasEnd digitValue allDigits numberAfter byteSum digitOf digitsOf afterLetter lineDigits startOf startLine isKernel isWord frameSamples hasLength checkHolds isNext frameOf dataLine kernelOf basepoint fraction fourteenBits column polynomial numerator unit nearestWhole rounded held output isHigh isLow outside noClips plus total clipsOf clips joinedAt filterFraction value valueClips lastRead countIn count clipsAt outputLine outputLines endLine refusalLine receivedIn received converts program
 sent-twice = refl

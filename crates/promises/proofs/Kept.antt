@@ -2,12 +2,15 @@
 use Rattle.oscillator_spec.proofs.PrintedRows.{three-point-table}
 use Rattle.kernels_spec.proofs.Card.{second}
 use Rattle.kernels_spec.proofs.Close.{near-paper}
+use Rattle.kernels_spec.proofs.SideLaws.{exact-sides}
 use Rattle.converter_spec.proofs.Third.{third}
+use Rattle.converter_spec.proofs.SideCounts.{counted-sides}
 use Rattle.lanes_spec.proofs.LanesAlone.{each-lane-alone}
 use Rattle.lanes_spec.proofs.OneLane.{only-that-lane}
 use Rattle.lanes_spec.proofs.LanesThird.{lanes-third}
 use Rattle.host_spec.proofs.ShownCalls.{on-the-state, host-third}
 use Rattle.host_spec.proofs.ShownLanes.{host-lanes-third}
+use Rattle.host_spec.proofs.SidesShown.{host-sides}
 use Rattle.host_spec.proofs.LinesBack.{host-round-trips}
 use Rattle.host_spec.proofs.HostLineOrder.{host-in-order}
 use Rattle.frames_spec.proofs.LineOrder.{in-order}
@@ -15,6 +18,7 @@ use Rattle.frames_spec.proofs.TheOneLine.{the-one-line}
 use Rattle.frames_spec.proofs.Writes.{round-trips}
 use Rattle.program_spec.proofs.TurnByTurn.{whole-run}
 use Rattle.program_spec.proofs.TurnsGoOn.{turns-go-on}
+use Rattle.program_spec.proofs.EndSums.{end-sum}
 use Rattle.program_spec.proofs.Replayed.{replay}
 use Rattle.program_spec.proofs.ReceivedOrder.{received-in-order}
 use Rattle.promises.specs.Promises.{Promises}
@@ -42,4 +46,8 @@ promises = record {
   in-order = in-order;
   received-in-order = received-in-order;
   host-in-order = host-in-order;
+  exact-sides = exact-sides;
+  counted-sides = counted-sides;
+  host-sides = host-sides;
+  end-sum = end-sum;
 }

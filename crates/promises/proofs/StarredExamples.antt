@@ -4,15 +4,15 @@ use Rattle.oscillator_spec.specs.Word.{isWord, inRange, nearestWord, ratioWord,
 use Rattle.oscillator_spec.specs.Position.{position, basepoint, fraction, fourteenBits}
 use Rattle.oscillator_spec.specs.Register.{registerOf, stepped, carryOf, topBitOf, threePointAdvances, threePointAdvance, advanceOf}
 use Rattle.kernels_spec.specs.Kernel.{kernelOf}
-use Rattle.kernels_spec.specs.Clips.{noClips, oneClip, plus, total}
-use Rattle.kernels_spec.specs.Value.{column, polynomial, numerator, unit, nearestWhole, rounded, held, output, outside, clipsOf, clips, filterFraction, windowAt, outputOf, clipOf}
+use Rattle.kernels_spec.specs.Clips.{noClips, plus, total, sideClips}
+use Rattle.kernels_spec.specs.Value.{column, polynomial, numerator, unit, nearestWhole, rounded, held, output, isHigh, isLow, outside, clipsOf, clips, filterFraction, windowAt, outputOf, clipOf}
 use Rattle.converter_state.specs.Start.{isKernel, isState, lastRead, neededAt, started}
 use Rattle.converter_spec.specs.Feeding.{advanced, taking, rule, fedOf, outputsOf}
 use Rattle.converter_spec.specs.Paper.{countIn, count}
 use Rattle.promises.specs.Starred.{Starred}
 
 pub starred : Starred
-unfolding isWord inRange nearestWord ratioWord ratesWord position basepoint fraction fourteenBits registerOf stepped carryOf topBitOf threePointAdvances threePointAdvance advanceOf kernelOf column polynomial numerator unit nearestWhole rounded held output outside noClips oneClip plus total clipsOf clips filterFraction windowAt outputOf clipOf isKernel isState neededAt started advanced taking rule fedOf outputsOf lastRead countIn count
+unfolding isWord inRange nearestWord ratioWord ratesWord position basepoint fraction fourteenBits registerOf stepped carryOf topBitOf threePointAdvances threePointAdvance advanceOf kernelOf column polynomial numerator unit nearestWhole rounded held output isHigh isLow outside noClips plus total sideClips clipsOf clips filterFraction windowAt outputOf clipOf isKernel isState neededAt started advanced taking rule fedOf outputsOf lastRead countIn count
 starred = record {
   linear = (refl, refl);
   cubic = (refl, refl);

@@ -2,16 +2,20 @@
 -- stands with the definitions of its layer; what single functions return and leave is in their contracts. The one value of this record is in proofs/Kept.antt. Definitions only.
 use Rattle.oscillator_spec.specs.ThreePointTable.{ThreePointTable}
 use Rattle.kernels_spec.specs.Demand2.{Second, NearPaper}
+use Rattle.kernels_spec.specs.Sides.{ExactSides}
 use Rattle.converter_spec.specs.Demand.{Third}
+use Rattle.converter_spec.specs.CountedSides.{CountedSides}
 use Rattle.lanes_spec.specs.LaneFeeding.{EachLaneAlone}
 use Rattle.lanes_spec.specs.LaneDemand.{OnlyThatLane, LanesThird}
 use Rattle.host_spec.specs.Calls.{OnTheState, HostThird}
 use Rattle.host_spec.specs.LaneCalls.{HostLanesThird}
+use Rattle.host_spec.specs.HostSides.{HostSides}
 use Rattle.host_spec.specs.HostRoundTrips.{HostRoundTrips}
 use Rattle.host_spec.specs.HostOrder.{HostInOrder}
 use Rattle.frames_spec.specs.InOrder.{InOrder}
 use Rattle.frames_spec.specs.RoundTrips.{TheOneLine, RoundTrips}
 use Rattle.program_spec.specs.WholeRun.{WholeRun, TurnsGoOn}
+use Rattle.program_spec.specs.EndSum.{EndSum}
 use Rattle.program_spec.specs.Replay.{Replay}
 use Rattle.program_spec.specs.ReceivedInOrder.{ReceivedInOrder}
 use Rattle.promises.specs.Starred.{Starred}
@@ -40,7 +44,7 @@ pub record Promises : Type 0 where
   pub only-that-lane : OnlyThatLane
   -- demand 3 for each lane: what a lane saw of a list of lane calls from an accepted start agrees with the paper's run
   pub lanes-third : LanesThird
-  -- and for each lane of an image of lanes, over lists of host calls on it
+  -- and for each lane of an image of lanes, over lists of host calls on it; request U5: with both clip counts that the images show
   pub host-lanes-third : HostLanesThird
   -- request U2: "From a sequence number and samples, write the one line that the reader accepts with those fields"; "A K line can be written too"
   pub the-one-line : TheOneLine
@@ -61,3 +65,11 @@ pub record Promises : Type 0 where
   pub received-in-order : ReceivedInOrder
   -- request U4 for the host: one line, and over any reads that are lent the same 8 bytes
   pub host-in-order : HostInOrder
+  -- request U5: "Evaluating one output shall report high exactly when the rounded value is above 32767, low exactly when it is below −32768, else neither"
+  pub exact-sides : ExactSides
+  -- request U5: "feed returns two counts", over every list of calls from an accepted start; for each lane they are those of its own feed (`each-lane-alone`, `lanes-third`)
+  pub counted-sides : CountedSides
+  -- request U5 for the host: "the lane call two for each lane", and "the saved state carr[ies] their sum"; over lists of calls `host-lanes-third` has both counts
+  pub host-sides : HostSides
+  -- request U5: "The E line .. carr[ies] their sum"
+  pub end-sum : EndSum

@@ -12,7 +12,7 @@ use Rattle.oscillator_spec.specs.Word.{word, refused, wordOf}
 use Rattle.oscillator_spec.specs.Position.{position, oscillator, basepoint, fourteenBits}
 use Rattle.oscillator_spec.specs.Register.{stepped, advanceOf}
 use Rattle.kernels_spec.specs.Kernel.{four, −, kernelOf}
-use Rattle.kernels_spec.specs.Clips.{noClips, oneClip, total}
+use Rattle.kernels_spec.specs.Clips.{noClips, total, HIGH, sideClips}
 use Rattle.kernels_spec.specs.Value.{output, clips, filterFraction}
 use Rattle.converter_state.specs.declared.state.State.{State}
 use Rattle.converter_state.specs.Start.{started}
@@ -68,8 +68,8 @@ pub record Starred : Type 0 where
   pub fourteen : (fourteenBits (pos 0x3FFFF) ≡ pos 0) × (fourteenBits (pos 0x40000) ≡ pos 1)
   -- "Kernel 0 at 1/2: 0, 1 gives 1; 0, −1 gives 0."
   pub halves : (output (kernelOf 0) (four (pos 0) (pos 0) (pos 1) (pos 0)) half ≡ pos 1) × (output (kernelOf 0) (four (pos 0) (pos 0) (− 1) (pos 0)) half ≡ pos 0)
-  -- "Kernel 3 at 1/2: −32768, 32767, 32767, −32768 gives 32767, one clip." In a run it is the second output, at 3/2
-  pub clip : (output (kernelOf 3) (four (− 32768) (pos 32767) (pos 32767) (− 32768)) half ≡ pos 32767) × (clips (kernelOf 3) (four (− 32768) (pos 32767) (pos 32767) (− 32768)) half ≡ oneClip)
+  -- "Kernel 3 at 1/2: −32768, 32767, 32767, −32768 gives 32767, one clip.", on the high side. In a run it is the second output, at 3/2
+  pub clip : (output (kernelOf 3) (four (− 32768) (pos 32767) (pos 32767) (− 32768)) half ≡ pos 32767) × (clips (kernelOf 3) (four (− 32768) (pos 32767) (pos 32767) (− 32768)) half ≡ sideClips HIGH)
   pub one-clip : (outputsOf (card 3 (2 ^ 32) (2 ^ 31)) extremes 9 ≡ − 2048 ∷ pos 32767 ∷ []) × (total (fedOf (card 3 (2 ^ 32) (2 ^ 31)) extremes 9 .counts .clips) ≡ 1)
   -- "Word 2^34, kernel 0, nine samples, P 0: two outputs": the card's, and the paper's c
   pub largest-word : Gives (card 0 (2 ^ 34) 0) (samples (1 ∷ 2 ∷ 3 ∷ 4 ∷ 5 ∷ 6 ∷ 7 ∷ 8 ∷ 9 ∷ [])) (samples (1 ∷ 5 ∷ [])) × (count (kernelOf 0) (oscillator 0 (2 ^ 34)) 9 ≡ 2)

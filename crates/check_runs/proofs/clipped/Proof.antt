@@ -6,25 +6,37 @@ use Rattle.check_runs.proofs.clipped.Statement.{statement}
 use Rattle.check_runs.proofs.clipped.Tie as tie
 
 abbrev Inv-loop : tie.InvT-loop
-Inv-loop clips after₀ i₀ after i = i ≤ length clips
+Inv-loop highs lows after₀ i₀ after i = i ≤ length highs
 
 abbrev μ-loop : tie.MeasureT-loop
-μ-loop clips after₀ i₀ after i = length clips - i
+μ-loop highs lows after₀ i₀ after i = length highs - i
 
 loop-holds : tie.Need-loop-holds Inv-loop μ-loop
 loop-holds c = search needs
 
-mul-n : tie.Need-mul-n Inv-loop μ-loop
-mul-n c = search needs
+mul-high : tie.Need-mul-high Inv-loop μ-loop
+mul-high c = search needs
 
-shared-slice-read-n : tie.Need-shared-slice-read-n Inv-loop μ-loop
-shared-slice-read-n c = search needs
+shared-slice-read-high : tie.Need-shared-slice-read-high Inv-loop μ-loop
+shared-slice-read-high c = search needs
+
+mul-low : tie.Need-mul-low Inv-loop μ-loop
+mul-low c = search needs
+
+shared-slice-read-low : tie.Need-shared-slice-read-low Inv-loop μ-loop
+shared-slice-read-low c = search needs
 
 mix-requires : tie.Need-mix-requires Inv-loop μ-loop
 mix-requires c κs = search needs
 
+mix-requires-2 : tie.Need-mix-requires-2 Inv-loop μ-loop
+mix-requires-2 c κs = search needs
+
 sum-requires : tie.Need-sum-requires Inv-loop μ-loop
 sum-requires c κs = search needs
+
+sum-requires-2 : tie.Need-sum-requires-2 Inv-loop μ-loop
+sum-requires-2 c κs = search needs
 
 add-i : tie.Need-add-i Inv-loop μ-loop
 add-i c = search needs
@@ -38,6 +50,9 @@ loop-again c = search needs
 returns : tie.Need-returns Inv-loop μ-loop
 returns c = search needs
 
+returns-2 : tie.Need-returns-2 Inv-loop μ-loop
+returns-2 c = search needs
+
 pub clipped-spec : {M : Type 1} → statement M
 clipped-spec =
     tie.close
@@ -45,11 +60,16 @@ clipped-spec =
     Inv-loop
     μ-loop
     loop-holds
-    mul-n
-    shared-slice-read-n
+    mul-high
+    shared-slice-read-high
+    mul-low
+    shared-slice-read-low
     mix-requires
+    mix-requires-2
     sum-requires
+    sum-requires-2
     add-i
     loop-less
     loop-again
-    returns)
+    returns
+    returns-2)

@@ -1,7 +1,7 @@
 -- `host_lanes::feeding::feed_each` meets its contract. Assumes nothing.
 use borrow.Author.Needs.{needs}
 use mathlib.Core.Path.{_≡_, sym, ap, _∙_}
-use Prim.Native.Nat.{suc, _-_, _/_, _^_, _<_}
+use Prim.Native.Nat.{_-_, _/_, _^_, _<_}
 use native.Mathlib.Omega.{arith}
 use native.Mathlib.Nat.{div-le-self}
 use lib.ListN.{length}
@@ -93,42 +93,40 @@ feed-lane-requires c κs =
       omega (arith, p .window-place .ensures, l .before .loop .inv .long, place-within (now (b .args .image)) (lent-long b) _ (lane-below _ _ _ _ (l .before .loop .inv) (l .loop-test .taken))),
     )
 
-total-clips-requires : tie.Need-total-clips-requires Inv-loop μ-loop
-total-clips-requires c κs = search needs
+-- a lane that was fed
+module _ (c : tie.After-feed-lane Inv-loop μ-loop) where
+  abbrev placed : tie.After-window-place Inv-loop μ-loop
+  placed = c .before .before .before .before
 
-cast-held : tie.Need-cast-held Inv-loop μ-loop
-cast-held c =
+  abbrev head : tie.In-loop Inv-loop μ-loop
+  head = placed .before
+
+  abbrev begin : tie.Start Inv-loop μ-loop
+  begin = head .before .before .before .before .before .before
+
+keep-clips-requires : tie.Need-keep-clips-requires Inv-loop μ-loop
+keep-clips-requires c κs =
     let f = c .before .before .before .before .before .before in
-    let p = f .before .before .before .before in
-    let b = p .before .before .before .before .before .before .before in
-    let l = p .before in
-    omega (arith, c .total-clips .ensures, counted _ _ _ _ (l .before .loop .inv) (l .loop-test .taken) (b .pre .1) (p .window-place .ensures) (f .feed-lane .ensures) .2)
-
-element-write-clips : tie.Need-element-write-clips Inv-loop μ-loop
-element-write-clips c =
-    let l = c .before .before .before .before .before .before .before .before .before .before .before in
-    lane-below _ _ _ _ (l .before .loop .inv) (l .loop-test .taken)
-
-mul-clips : tie.Need-mul-clips Inv-loop μ-loop
-mul-clips c = omega (arith, element-write-clips c)
+    let l = head f in (
+      lane-below _ _ _ _ (l .before .loop .inv) (l .loop-test .taken),
+      omega (arith, counted _ _ _ _ (l .before .loop .inv) (l .loop-test .taken) (begin f .pre .1) (placed f .window-place .ensures) (f .feed-lane .ensures) .2),
+    )
 
 first-of-requires : tie.Need-first-of-requires Inv-loop μ-loop
 first-of-requires c κs = search needs
 
 add-i : tie.Need-add-i Inv-loop μ-loop
-add-i c = omega (arith, element-write-clips (c .before))
+add-i c = let l = head (c .before .before .before .before .before .before .before .before) in omega (arith, lane-below _ _ _ _ (l .before .loop .inv) (l .loop-test .taken))
 
 loop-less : tie.Need-loop-less Inv-loop μ-loop
 loop-less c = search needs
 
 loop-again : tie.Need-loop-again Inv-loop μ-loop
 loop-again c =
-    let t = c .before in
-    let f = t .before .before .before .before .before .before in
-    let p = f .before .before .before .before in
-    let l = p .before in
-    let b = p .before .before .before .before .before .before .before in
-    rw (c .first-of .ensures) (one-fed _ _ _ _ (l .before .loop .inv) (l .loop-test .taken) (b .pre .1) (p .window-place .ensures) (f .feed-lane .ensures) (search needs) (t .total-clips .ensures))
+    let k = c .before in
+    let f = k .before .before .before .before .before .before .before in
+    let l = head f in
+    rw (c .first-of .ensures) (one-fed _ _ _ _ (l .before .loop .inv) (l .loop-test .taken) (begin f .pre .1) (placed f .window-place .ensures) (f .feed-lane .ensures) (search needs) (k .keep-clips .ensures))
 
 same-length : tie.Need-same-length Inv-loop μ-loop
 same-length c = c .before .loop .inv .long ∙ sym (lent-long (c .before .before .before .before .before .before))
@@ -163,10 +161,7 @@ feed-each-spec =
     part-feed-lane-start-2
     part-feed-lane-end-2
     feed-lane-requires
-    total-clips-requires
-    cast-held
-    mul-clips
-    element-write-clips
+    keep-clips-requires
     first-of-requires
     add-i
     loop-less

@@ -13,10 +13,10 @@ use Rattle.lanes_spec.specs.LaneFeeding.{laneFed}
 use Rattle.host_spec.specs.declared.saved.Saved.{Saved}
 use Rattle.host_spec.specs.Image.{imageLength, imageOf}
 use Rattle.host_spec.specs.Host.{savedBy}
-use Rattle.host_spec.specs.LaneImage.{clipsSize, lanesLength}
-use Rattle.host_spec.specs.LaneHost.{answerIn, lanesImageFed}
+use Rattle.host_spec.specs.LaneImage.{countSize, lanesLength}
+use Rattle.host_spec.specs.LaneHost.{answerIn, allClips, lanesImageFed}
 use Rattle.host_spec.proofs.LaneImages.{is-lanes-image}
-use Rattle.host_lanes.proofs.LanesWritten.{begun-long, counts-long, all-written}
+use Rattle.host_lanes.proofs.LanesWritten.{numbers-bytes, begun-long, counts-long, all-written}
 use Rattle.host_lanes.proofs.feeding.feed_lanes.Statement.{statement}
 use Rattle.host_lanes.proofs.feeding.feed_lanes.Tie as tie
 
@@ -104,10 +104,10 @@ returns c =
     let state = f .feed-each .result .state in
     let b = begin f .args in
     let answer = answerIn (now (b .image)) (b .count) (now (b .input)) (now (b .output)) in (
-      all-written (first e) (fed f) (first-long e) (fed-long f) (savedBy (laneFed answer 0)) (answer .clips)
+      all-written (first e) (fed f) (first-long e) (fed-long f) (savedBy (laneFed answer 0)) (allClips answer)
           (e .encode .ensures ∙ ap (λ w. imageOf (record { state = state; shown = w })) (e .before .before .shown-of .ensures) ∙ ap (λ (g : Fed). imageOf (savedBy g)) (h .answer))
           (h .windows)
-          (p .put-clips .ensures ∙ ap (flatMap (bytesOf clipsSize)) (h .held)),
+          (p .put-clips .ensures ∙ ap (flatMap (bytesOf countSize)) (h .held) ∙ numbers-bytes (allClips answer)),
       h .buffer,
     )
 

@@ -8,15 +8,15 @@ use lib.ListN.{length, take, getD}
 use lib.Seq.{take-all}
 use Rattle.bytes_spec.specs.Bytes.{bytesOf}
 use Rattle.bytes_spec.proofs.OneBehindTheOther.{flat-next}
-use Rattle.host_spec.specs.LaneImage.{clipsSize}
+use Rattle.host_spec.specs.LaneImage.{countSize}
 use Rattle.host_lanes.proofs.lane_image.put_clips.Statement.{statement}
 use Rattle.host_lanes.proofs.lane_image.put_clips.Tie as tie
 
 abbrev Inv-loop : tie.InvT-loop
-Inv-loop bytes₀ clips i₀ bytes i = (i ≤ 16) × (length bytes ≡ 64) × (take (i * 4) bytes ≡ flatMap (bytesOf clipsSize) (take i clips))
+Inv-loop bytes₀ clips i₀ bytes i = (i ≤ 32) × (length bytes ≡ 128) × (take (i * 4) bytes ≡ flatMap (bytesOf countSize) (take i clips))
 
 abbrev μ-loop : tie.MeasureT-loop
-μ-loop bytes₀ clips i₀ bytes i = 16 - i
+μ-loop bytes₀ clips i₀ bytes i = 32 - i
 
 loop-holds : tie.Need-loop-holds Inv-loop μ-loop
 unfolding flatMap
@@ -48,12 +48,12 @@ loop-again c =
     let p = c .before .before in
     let l = p .before .before .before .loop in
     let clips = p .before .before .before .before .before .args .t2 in
-    let many : length clips ≡ 16 = search needs in
+    let many : length clips ≡ 32 = search needs in
     let next : (l .i + 1) * 4 ≡ l .i * 4 + 4 = omega arith in (
       omega (arith, p .before .before .loop-test .taken),
       search needs,
-      ap (λ k. take k (p .put-number .last .0)) next ∙ p .put-number .ensures .0 ∙ (λ t. l .inv .2 t ++ bytesOf clipsSize (getD clips (l .i) 0))
-          ∙ sym (flat-next (bytesOf clipsSize) 0 clips (l .i) (omega (arith, p .before .before .loop-test .taken, many))),
+      ap (λ k. take k (p .put-number .last .0)) next ∙ p .put-number .ensures .0 ∙ (λ t. l .inv .2 t ++ bytesOf countSize (getD clips (l .i) 0))
+          ∙ sym (flat-next (bytesOf countSize) 0 clips (l .i) (omega (arith, p .before .before .loop-test .taken, many))),
     )
 
 same-length : tie.Need-same-length Inv-loop μ-loop
@@ -63,9 +63,9 @@ returns : tie.Need-returns Inv-loop μ-loop
 returns c =
     let l = c .before .loop in
     let clips = c .before .before .before .args .t2 in
-    let many : length clips ≡ 16 = search needs in
-    let all : l .i ≡ 16 = omega (arith, l .inv .0, c .loop-test .left) in
-    sym (take-all (l .i * 4) (l .bytes) (omega (arith, l .inv .1, all))) ∙ l .inv .2 ∙ ap (flatMap (bytesOf clipsSize)) (take-all (l .i) clips (omega (arith, many, all)))
+    let many : length clips ≡ 32 = search needs in
+    let all : l .i ≡ 32 = omega (arith, l .inv .0, c .loop-test .left) in
+    sym (take-all (l .i * 4) (l .bytes) (omega (arith, l .inv .1, all))) ∙ l .inv .2 ∙ ap (flatMap (bytesOf countSize)) (take-all (l .i) clips (omega (arith, many, all)))
 
 pub put-clips-spec : {M : Type 1} → statement M
 put-clips-spec =

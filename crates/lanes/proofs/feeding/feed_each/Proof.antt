@@ -11,10 +11,10 @@ use Rattle.lanes.proofs.feeding.feed_each.Statement.{statement}
 use Rattle.lanes.proofs.feeding.feed_each.Tie as tie
 
 abbrev Inv-loop : tie.InvT-loop
-Inv-loop lanes count input output₀ n m windows₀ clips₀ i₀ output windows clips i = SomeFed lanes count input output₀ output windows clips i × (i < count)
+Inv-loop lanes count input output₀ n m windows₀ highs₀ lows₀ i₀ output windows highs lows i = SomeFed lanes count input output₀ output windows highs lows i × (i < count)
 
 abbrev μ-loop : tie.MeasureT-loop
-μ-loop lanes count input output₀ n m windows₀ clips₀ i₀ output windows clips i = count - i
+μ-loop lanes count input output₀ n m windows₀ highs₀ lows₀ i₀ output windows highs lows i = count - i
 
 -- ---- lane i
 module _ (l : tie.At-loop Inv-loop μ-loop) where
@@ -28,7 +28,7 @@ module _ (l : tie.At-loop Inv-loop μ-loop) where
   out-ends = ends-out (l .loop .inv .0) (l .loop .inv .1)
 
 -- ---- lane i is fed
-module _ (c : tie.After-total-clips Inv-loop μ-loop) where
+module _ (c : tie.After-clips Inv-loop μ-loop) where
   abbrev at : tie.At-loop Inv-loop μ-loop
   at = c .before .before .before .before .before .before .before .before .before .before .before
 
@@ -39,8 +39,8 @@ module _ (c : tie.After-total-clips Inv-loop μ-loop) where
       let a = at .before .before .args in
       let m = length (now (a .output)) / a .count in
       SomeFed (a .lanes) (a .count) (now (a .input)) (now (a .output)) (handedBack m (at .loop .i * m) (z .feed .last .1 .1 .0) (at .loop .output)) (c .before .before .keep .last .0)
-      (set (at .loop .clips) (at .loop .i) (c .total-clips .result)) (at .loop .i + 1)
-  lane-fed = one-fed (at .loop .inv .0) (at .loop .inv .1) (z .before .before .before .lane .ensures) (z .feed .ensures) (c .before .before .keep .ensures) (c .total-clips .ensures)
+      (set (at .loop .highs) (at .loop .i) (z .feed .result .counts .clips .high)) (set (at .loop .lows) (at .loop .i) (z .feed .result .counts .clips .low)) (at .loop .i + 1)
+  lane-fed = one-fed (at .loop .inv .0) (at .loop .inv .1) (z .before .before .before .lane .ensures) (z .feed .ensures) (c .before .before .keep .ensures)
 
   lane-answer : let a = at .before .before .args in z .feed .result ≡ fedAt (a .lanes) (a .count) (now (a .input)) (now (a .output)) (at .loop .i)
   lane-answer = answered (at .loop .inv .0) (at .loop .inv .1) (z .before .before .before .lane .ensures) (z .feed .ensures)
@@ -102,17 +102,20 @@ feed-requires c κs = search needs
 keep-requires : tie.Need-keep-requires Inv-loop μ-loop
 keep-requires c κs = let l = c .before .before .before .before .before .before .before .before in (lane-few l, windows-length (l .loop .inv .0))
 
-total-clips-requires : tie.Need-total-clips-requires Inv-loop μ-loop
-total-clips-requires c κs = search needs
+mul-highs : tie.Need-mul-highs Inv-loop μ-loop
+mul-highs c = omega (arith, lane-few (at c))
 
-mul-clips : tie.Need-mul-clips Inv-loop μ-loop
-mul-clips c = omega (arith, lane-few (c .before .before .before .before .before .before .before .before .before .before .before))
+array-write-highs : tie.Need-array-write-highs Inv-loop μ-loop
+array-write-highs c = lane-few (at c)
 
-array-write-clips : tie.Need-array-write-clips Inv-loop μ-loop
-array-write-clips c = lane-few (c .before .before .before .before .before .before .before .before .before .before .before)
+mul-lows : tie.Need-mul-lows Inv-loop μ-loop
+mul-lows c = mul-highs c
+
+array-write-lows : tie.Need-array-write-lows Inv-loop μ-loop
+array-write-lows c = array-write-highs c
 
 add-i : tie.Need-add-i Inv-loop μ-loop
-add-i c = omega (arith, lane-few (c .before .before .before .before .before .before .before .before .before .before .before))
+add-i c = omega (arith, lane-few (at c))
 
 with-windows-requires : tie.Need-with-windows-requires Inv-loop μ-loop
 with-windows-requires c κs = search needs
@@ -155,9 +158,10 @@ feed-each-spec =
     part-feed-end-2
     feed-requires
     keep-requires
-    total-clips-requires
-    mul-clips
-    array-write-clips
+    mul-highs
+    array-write-highs
+    mul-lows
+    array-write-lows
     add-i
     with-windows-requires
     same-length

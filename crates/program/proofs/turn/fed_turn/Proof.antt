@@ -3,7 +3,9 @@ use borrow.Author.Needs.{needs}
 use mathlib.Core.Path.{_≡_, sym, ap, _∙_}
 use mathlib.Core.Bool.{cond, true}
 use mathlib.Core.Logic.{⊎-elim}
-use Prim.Native.Nat.{_+_, _*_, _%_, _^_}
+use Prim.Native.Nat.{ℕ, _+_, _*_, _%_, _^_}
+use native.Mathlib.Omega.{arith}
+use Rattle.kernels_spec.specs.Clips.{total}
 use Rattle.frames_spec.specs.declared.answers.Last.the-variants as last
 use Rattle.program_spec.specs.declared.turn.Next.the-variants as next
 use Rattle.program_spec.specs.Turn.{isHungry}
@@ -16,18 +18,23 @@ ending : (c : tie.At-match-came) → let a = c .before .before .args in let e = 
     (c .match .last ≡ cond e (last.Number (a .number)) (a .s .last)) × (c .match .used ≡ cond e (a .size) 0) × (c .match .skip ≡ cond e 0 (a .s .skip + a .fed .counts .taken))
 ending c = ⊎-elim (λ t. rw (t .1 .given .1) (t .2, t .3, t .4)) (λ t. rw (t .1 .given .1) (t .4, t .5, t .6)) (c .match .came)
 
+-- the sum of all clips modulo 2^64, and not of a count that was cut before
+cut-once : (s n : ℕ) → (s + n % 2 ^ 64) % 2 ^ 64 ≡ (s + n) % 2 ^ 64
+cut-once s n = omega arith
+
 returns : tie.Need-returns
 returns c ys l =
     let z = c .before .before in
     let e = ending (z .before .before) in
+    let a = z .before .before .before .before .args in
     λ i. record {
       stream = record {
-        state = z .before .before .before .before .args .fed .state;
+        state = a .fed .state;
         started = true;
         last = e .0 i;
         skip = e .2 i;
         outputs = c .before .wrapping-add-u64 .ensures i;
-        clips = (c .wrapping-add-u642 .ensures ∙ ap (λ n. (z .before .before .before .before .args .s .clips + n) % 2 ^ 64) (z .total-clips .ensures)) i;
+        clips = (c .wrapping-add-u642 .ensures ∙ ap (λ n. (a .s .clips + n) % 2 ^ 64) (z .total-clips .ensures) ∙ cut-once (a .s .clips) (total (a .fed .counts .clips))) i;
       };
       used = e .1 i;
       written = (ap (λ n. n * 5) (sym l) ∙ sym (outputs-length ys)) i;

@@ -1,4 +1,4 @@
--- `kernels::output::evaluate_by` meets its contract. Assumes nothing.
+-- `kernels::output::held_output_by` meets its contract. Assumes nothing.
 use borrow.Author.Needs.{needs, sfits-of}
 use mathlib.Core.Path.{_≡_, sym, _∙_, ap, subst}
 use Prim.Native.Nat.{ℕ, _+_, _-_, _^_}
@@ -15,10 +15,11 @@ use Rattle.kernels_spec.specs.Kernel.{places, Kernel, kernelOf}
 use Rattle.kernels_spec.specs.Value.{unit, nearestWhole, rounded, held, output, clipsOf, clips, windowAt, filterFraction, numeratorOf, outputOf, clipOf}
 use Rattle.kernels.specs.Scale.{spare, largestNumerator}
 use Rattle.kernels_spec.proofs.Hold.{held-in, clips-in}
+use Rattle.kernels_spec.proofs.SideLaws.{excess-none}
 use Rattle.kernels_spec.proofs.Numbers.{reach-low}
 use Rattle.kernels.proofs.Mean.{nothing-held}
-use Rattle.kernels.proofs.output.evaluate_by.Statement.{statement}
-use Rattle.kernels.proofs.output.evaluate_by.Tie as tie
+use Rattle.kernels.proofs.output.held_output_by.Statement.{statement}
+use Rattle.kernels.proofs.output.held_output_by.Tie as tie
 
 module _ (c : tie.After-round) where
   abbrev s : tie.Start
@@ -63,9 +64,7 @@ cast-value c = subst (SFits w16) (sym (rounds (c .before))) (i-fits (inside c) t
 
 returns : tie.Need-returns
 unfolding outputOf clipOf output clips
-returns c =
-    let b = c .before in
-    (toZ-ofZ (cast-value b) ∙ rounds (b .before) ∙ sym (held-in 1 (inside b)), c .no-clips .ensures ∙ sym (clips-in (inside b)))
+returns c = (toZ-ofZ (cast-value c) ∙ rounds (c .before) ∙ sym (held-in 1 (inside c)), excess-none ∙ sym (clips-in (inside c)))
 
 returns-2 : tie.Need-returns-2
 unfolding outputOf clipOf output clips
@@ -81,11 +80,8 @@ round-requires c κs =
     let e : stored (c .short-numerator .result) ≡ c .short-numerator .result = toZ-ofZ (sfits-of (c .short-numerator .ok)) in
     (c .before .pre .0, subst (λ (n : ℤ). Within largestNumerator (n *ℤ pos (spare (kernelOf (c .before .args .kernel))))) (sym e) (c .short-numerator .ensures .1))
 
-no-clips-requires : tie.Need-no-clips-requires
-no-clips-requires c κs = search needs
-
 hold-requires : tie.Need-hold-requires
 hold-requires c κs = search needs
 
-pub evaluate-by-spec : {M : Type 1} → statement M
-evaluate-by-spec = tie.close (tie.spec short-numerator-requires round-requires cast-value no-clips-requires returns hold-requires returns-2)
+pub held-output-by-spec : {M : Type 1} → statement M
+held-output-by-spec = tie.close (tie.spec short-numerator-requires round-requires cast-value returns hold-requires returns-2)
