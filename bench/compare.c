@@ -5,7 +5,8 @@
 
    Built with OLD it holds and times an older archive too, whose symbols begin with `old_`, and prints the best time of
    the new one, new / C and new / old. Each ratio is the median over the runs of the ratio of two neighbouring runs,
-   which other work on the machine disturbs less than the ratio of the best times.
+   which other work on the machine disturbs less than the ratio of the best times. The older one may take halves upward,
+   as before request U6: its outputs may be one above even ones.
 
    Built with LANES it holds against each other and times one call of resampler_feed_lanes for sixteen lanes, the same
    in plain C, and sixteen calls of resampler_feed with an image each, over the same buffers. It prints the best time of
@@ -199,10 +200,26 @@ static double stream(const struct maker *maker, const struct row *row, uint8_t *
     return now() - began;
 }
 
+static int agree(size_t maker)
+{
+    if (memcmp(outputs[maker], outputs[NEW], OUTPUT_BYTES) == 0)
+        return 1;
+#ifdef OLD
+    for (size_t k = 0; k < OUTPUT_BYTES / 2; k++) {
+        int above = resampler_sample(outputs[maker], k) - resampler_sample(outputs[NEW], k);
+        if (above != 0 && (above != 1 || outputs[NEW][2 * k] % 2 != 0))
+            return 0;
+    }
+    return maker == THIRD;
+#else
+    return 0;
+#endif
+}
+
 static void compare_outputs(void)
 {
     for (size_t i = 1; i < MAKERS; i++)
-        if (memcmp(outputs[i], outputs[NEW], OUTPUT_BYTES) != 0)
+        if (!agree(i))
             fail(i == PLAIN ? "the outputs differ" : "the outputs differ from those of " THIRD_ONE);
 }
 

@@ -42,10 +42,34 @@ static int16_t hold(int64_t z, uint64_t *clips)
     return (int16_t)z;
 }
 
-/* n / 6, rounded down. */
+/* n / 2^shift to the nearest whole number, halves to the even one: half of 2^shift is added, less 1 where the
+   quotient is even. With gcc 12 this has 4 instructions more than halves upward, and so have three other ways to take
+   that bit, which are as fast; to find the halves by a comparison takes 5 or 6, and kernel 0 then 1.1 or 1.2 times as
+   long. */
+static int64_t nearest(int64_t n, int shift)
+{
+    int64_t below_half = ((int64_t)1 << (shift - 1)) - 1;
+    return (n + below_half + (n >> shift & 1)) >> shift;
+}
+
+/* n / 6, rounded down, for n up to 2^21 in size: 6 * 0x2aaaaaab is 2^32 + 2, and 2^20 makes up for twice the
+   quotient. With n / 6 - (n % 6 < 0) kernel 3 has 8 instructions an output more and takes 1.2 times as long; with n
+   made positive for the division, 1.04 times. */
 static int64_t sixth(int64_t n)
 {
-    return n / 6 - (n % 6 < 0);
+    return (n * 0x2aaaaaab + 0x100000) >> 32;
+}
+
+/* n / (6 * 2^42) to the nearest whole number, halves to the even one. With x = n + 2^42 halves upward are the sixth
+   of t = (x >> 42) + 2. At a half with an odd upper neighbour x is a multiple of 2^44, and one off t gives the lower
+   one; at other multiples t is not one of 6, and one off changes nothing. Thirteen forms were counted. This one has 4
+   instructions more than halves upward, and takes 1.09 to 1.11 times as long. One off n: 1.13 to 1.14. A branch at
+   such multiples: 1.08 to 1.09, but 1.13 to 1.18 at the word 2^31, where halves are common. The product of the upper
+   one and 6 * 2^42, compared with n + 3 * 2^42: 1.09 to 1.10, and 1.22 to 1.29. */
+static int64_t nearest_sixth(int64_t n)
+{
+    int64_t x = n + ((int64_t)1 << 42);
+    return sixth((x >> 42) + 2 - ((uint64_t)x << 20 == 0));
 }
 
 /* Kernel 0: the straight line between the two samples around the position. It never leaves 16 bits. */
@@ -58,7 +82,7 @@ static void run_0(struct progress *p, uint64_t word, const uint8_t *samples, siz
         const uint8_t *x = samples + 2 * at;
         int64_t m = reg >> 18;
         int64_t x0 = get(x, 2), x1 = get(x, 3);
-        put(output, written++, (int16_t)(((x1 - x0) * m + x0 * 16384 + 8192) >> 14));
+        put(output, written++, (int16_t)nearest((x1 - x0) * m + x0 * 16384, 14));
         uint32_t next = reg + (uint32_t)word;
         at += (word >> 32) + (next < reg);
         reg = next;
@@ -83,7 +107,7 @@ static void run_1(struct progress *p, uint64_t word, const uint8_t *samples, siz
         int64_t v1 = x1 - xm;
         int64_t v2 = xm - 2 * x0 + x1;
         int64_t n = (v2 * m + v1 * 16384) * m + v0 * (1 << 28);
-        put(output, written++, hold((n + (1 << 28)) >> 29, &clips));
+        put(output, written++, hold(nearest(n, 29), &clips));
         uint32_t next = reg + (uint32_t)word;
         at += (word >> 32) + (next < reg) + (next >> 31) - (reg >> 31);
         reg = next;
@@ -109,7 +133,7 @@ static void run_2(struct progress *p, uint64_t word, const uint8_t *samples, siz
         int64_t v1 = -xm - x0 + 3 * x1 - x2;
         int64_t v2 = xm - x0 - x1 + x2;
         int64_t n = (v2 * m + v1 * 16384) * m + v0 * (1 << 28);
-        put(output, written++, hold((n + (1 << 28)) >> 29, &clips));
+        put(output, written++, hold(nearest(n, 29), &clips));
         uint32_t next = reg + (uint32_t)word;
         at += (word >> 32) + (next < reg);
         reg = next;
@@ -136,7 +160,7 @@ static void run_3(struct progress *p, uint64_t word, const uint8_t *samples, siz
         int64_t v2 = 3 * xm - 6 * x0 + 3 * x1;
         int64_t v3 = -xm + 3 * x0 - 3 * x1 + x2;
         int64_t n = ((v3 * m + v2 * 16384) * m + v1 * (1 << 28)) * m + v0 * ((int64_t)1 << 42);
-        put(output, written++, hold(sixth((n + ((int64_t)3 << 42)) >> 42), &clips));
+        put(output, written++, hold(nearest_sixth(n), &clips));
         uint32_t next = reg + (uint32_t)word;
         at += (word >> 32) + (next < reg);
         reg = next;

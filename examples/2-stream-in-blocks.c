@@ -7,7 +7,8 @@
    HUNGRY  The input is all taken, and all outputs are made that it allows. The host brings the next block. Some
            space may be left, and it may be that none is: the space was then just enough.
 
-   Sample i is 100 i, the kernel is linear and the word 5/8 of 2^32, so that output k is 62.5 k, halves upward. */
+   Sample i is 100 i, the kernel is linear and the word 5/8 of 2^32, so that output k is 62.5 k, halves to the even
+   neighbour: 62.5 gives 62, and 187.5 gives 188. */
 #include "resampler.h"
 
 #include <stdio.h>

@@ -12,6 +12,14 @@
 
    Samples and outputs are byte pairs: 16 bits in two's complement, the low byte first.
 
+   An output is the whole number nearest to the kernel's value, and of two that are equally near the even one: halves go
+   to the even neighbour (request U6; document 01 has them upward). A library of before takes them upward: an output is
+   then one higher exactly where the value is a half within the range and the number above it is odd. The rule changes
+   nothing else that a call answers or leaves. A host that kept outputs of such a library sees these differences of one
+   count, and two suppliers who compare outputs need one rule. A library shows its rule at the samples 0, 1, with the
+   linear kernel and a phase of one half: the output is 0, by the older rule 1. Words, and the nearest sample of the
+   three-point kernel, go upward at a half, as before.
+
    Every call returns 0 or the number of a refusal. A refused call changes no byte of any buffer.
 
    A buffer is lent as a pointer and its length in bytes, at any alignment. No pointer may be null, also where
@@ -30,7 +38,11 @@
    fraction and held to 16 bits. D is the largest jump between neighbouring samples among those that the kernel
    uses there, zeros before the first included; K is 16384, 16384, 8192 or 12288 by kernel. Of an image of lanes,
    with feeds of lanes and with retunes of its first 40 bytes, all this holds for each lane that no accepted feed
-   left out. */
+   left out.
+
+   A sensor turned round. Take two images that were started alike, are retuned alike and lent as much space, one fed the
+   other's samples with the other sign; -32768 has none, so it is no sample of either. Every feed takes, writes and ends
+   alike, and each output has the other sign, where neither of the two is -32768. */
 #ifndef RESAMPLER_H
 #define RESAMPLER_H
 
@@ -44,9 +56,9 @@ extern "C" {
 /* Kernels. The basepoint b of an output is the sample at or before its position; for the three-point kernel it is
    the nearest one, halves upward. The kernel is evaluated at u, the fraction from b rounded down to a multiple of
    2^-14; for the three-point kernel it is below zero where the position lies before b. The value is kept exact,
-   rounded once, halves upward, and held to -32768..32767. An output that had to be held is a clip, as below. Samples
-   before the first are zero. R is how far past b a kernel reads. With xm, x0, x1, x2 for the samples b - 1 to b + 2 the
-   values are
+   rounded once, halves to the even neighbour, and held to -32768..32767. An output that had to be held is a clip, as
+   below. Samples before the first are zero. R is how far past b a kernel reads. With xm, x0, x1, x2 for the samples
+   b - 1 to b + 2 the values are
     0   x0 + u (x1 - x0)
     1   x0 + u (x1 - xm)/2 + u^2 (x1 - 2 x0 + xm)/2
     2   x0 + u (-x2 + 3 x1 - x0 - xm)/2 + u^2 (x2 - x1 - x0 + xm)/2      (alpha 1/2)
@@ -60,6 +72,9 @@ extern "C" {
    is above 32767, low exactly where it is below -32768. So 32767.5, which rounds to 32768, is high, and -32768.5, which
    rounds to -32768, is neither; an output that is 32767 or -32768 without having been held is neither too. The linear
    kernel makes no clips.
+
+   Where a sensor is turned round, high and low clips change places, but for a rounded value of 32768, which is high:
+   turned round it is -32768, which is neither.
 
    A feed of lanes counts the high and the low clips of each lane, a single feed both together. A host that wants the
    two counts of one signal feeds it as one lane. */

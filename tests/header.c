@@ -168,6 +168,95 @@ static void sides(void)
     }
 }
 
+/* Feeds three samples to each lane of an image that was started at a phase of one half. The next output stands four
+   samples further on, so each lane gives one. The samples are zeros, but for one: of the linear kernel the second, of
+   the others the third. The value is that sample times 1/2, -1/8, -1/8 or -1/16. */
+static void feed_halves(uint32_t kernel, const int16_t *values, uint8_t *output)
+{
+    enum { LANES = RESAMPLER_MOST_LANES, EACH = 3 };
+    uint8_t image[RESAMPLER_LANES_BYTES], input[LANES * EACH * RESAMPLER_SAMPLE_BYTES] = {0};
+    for (size_t i = 0; i < LANES; i++)
+        resampler_put_sample(input, i * EACH + (kernel == RESAMPLER_LINEAR ? 1 : 2), values[i]);
+    check("start of halves", resampler_start_lanes_rates(image, sizeof image, kernel, 4, 1, 0x80000000) == 0);
+    check("feed of halves", resampler_feed_lanes(image, sizeof image, LANES, input, sizeof input, output,
+                                                 LANES * RESAMPLER_SAMPLE_BYTES) == 0);
+    check("one half a lane", resampler_written(image) == 1);
+}
+
+/* Outputs at a half go to the even neighbour, in each kernel: -7.5, -6.5 and so on to 7.5. In all but the linear one,
+   with a sample one less or one more, the value lies above or below the half, and goes upward or downward. */
+static void halves(void)
+{
+    static const int16_t even[] = {-8, -6, -6, -4, -4, -2, -2, 0, 0, 2, 2, 4, 4, 6, 6, 8};
+    static const int times[] = {1, -4, -4, -8}; /* the sample for one half */
+    enum { LANES = RESAMPLER_MOST_LANES };
+    int16_t at[LANES], above[LANES], below[LANES];
+    uint8_t output[LANES * RESAMPLER_SAMPLE_BYTES];
+    for (uint32_t kernel = RESAMPLER_LINEAR; kernel <= RESAMPLER_CUBIC; kernel++) {
+        for (int i = 0; i < LANES; i++) {
+            at[i] = (int16_t)(times[kernel] * (2 * i - 15));
+            above[i] = (int16_t)(at[i] - 1);
+            below[i] = (int16_t)(at[i] + 1);
+        }
+        feed_halves(kernel, at, output);
+        for (size_t i = 0; i < LANES; i++)
+            check("output at a half", resampler_sample(output, i) == even[i]);
+        if (kernel == RESAMPLER_LINEAR)
+            continue;
+        feed_halves(kernel, above, output);
+        for (size_t i = 0; i < LANES; i++)
+            check("output above a half", resampler_sample(output, i) == (int)i - 7);
+        feed_halves(kernel, below, output);
+        for (size_t i = 0; i < LANES; i++)
+            check("output below a half", resampler_sample(output, i) == (int)i - 8);
+    }
+}
+
+/* Words at a half go upward, 1/2 to 1 and 2 1/2 to 3, and 2^34 + 1/2 is refused. So does the nearest sample of the
+   three-point kernel: at a phase of one half it is the second, and three samples are needed. */
+static void upward(void)
+{
+    static const double unit = 1 / 4294967296.0;
+    uint8_t image[RESAMPLER_IMAGE_BYTES];
+    size_t n = sizeof image;
+    check("ratio of word 1/2", resampler_start_ratio(image, n, RESAMPLER_THREE_POINT, 0.5 * unit, 0x80000000) == 0);
+    check("word 1/2", number(image + RESAMPLER_AT_WORD, 8) == 1);
+    check("needed from one half", image[RESAMPLER_AT_NEEDED] == 3);
+    check("ratio of word 2 1/2", resampler_retune_ratio(image, n, 2.5 * unit) == 0);
+    check("word 2 1/2", number(image + RESAMPLER_AT_WORD, 8) == 3);
+    check("word above 2^34", resampler_retune_ratio(image, n, 4 + 0.5 * unit) == RESAMPLER_BAD_WORD);
+    check("start before one half", resampler_start_word(image, n, RESAMPLER_THREE_POINT, 1, 0x7FFFFFFF) == 0);
+    check("needed before one half", image[RESAMPLER_AT_NEEDED] == 2);
+}
+
+/* A sensor turned round: lane 1 has the samples of lane 0 with the other sign, and gives its outputs with the other
+   sign. The samples are small, which makes many halves, and then large, which makes clips; there an output that is
+   -32768 in either lane is passed over. */
+static void turned(void)
+{
+    enum { EACH = 200, SPACE = 4 * EACH };
+    static uint8_t input[2 * EACH * RESAMPLER_SAMPLE_BYTES], output[2 * SPACE * RESAMPLER_SAMPLE_BYTES];
+    uint8_t image[RESAMPLER_LANES_BYTES];
+    uint32_t seed = 1;
+    for (uint32_t i = 0; i < 8; i++) {
+        int largest = i < 4 ? 3 : 32767;
+        for (size_t k = 0; k < EACH; k++) {
+            seed = seed * 1664525 + 1013904223;
+            int value = (int)((seed >> 8) % (uint32_t)(2 * largest + 1)) - largest;
+            resampler_put_sample(input, k, (int16_t)value);
+            resampler_put_sample(input, EACH + k, (int16_t)-value);
+        }
+        check("start to turn", resampler_start_lanes_ratio(image, sizeof image, i % 4, 0.25, 0) == 0);
+        check("feed to turn",
+              resampler_feed_lanes(image, sizeof image, 2, input, sizeof input, output, sizeof output) == 0);
+        check("outputs to turn", resampler_written(image) > SPACE - 12);
+        for (size_t k = 0; k < resampler_written(image); k++) {
+            int one = resampler_sample(output, k), other = resampler_sample(output, SPACE + k);
+            check("turned round", one == -other || (largest > 3 && (one == -32768 || other == -32768)));
+        }
+    }
+}
+
 /* One signal as one lane has, byte for byte, the image of a single feed, and its sides behind that. An image with the
    first 160 bytes of another, as they are carried over from an earlier version, goes on as that one does. */
 static void one_lane(void)
@@ -399,6 +488,9 @@ int main(void)
     fields();
     lanes();
     sides();
+    halves();
+    upward();
+    turned();
     one_lane();
     lines();
     refusals();

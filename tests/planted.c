@@ -1,6 +1,6 @@
 /* A library with a mistake, which tests/drivers links in the place of the feeds, and of the calls for D lines, to see
    whether the drivers tell it. The mistake is named by the variable PLANTED. It is made in the third accepted feed that
-   writes an output; a mistake of lanes or of lines in the first call in which it shows. */
+   writes an output; a mistake of halves, lanes or lines in the first call in which it shows. */
 #include "resampler.h"
 
 #include <stdlib.h>
@@ -21,11 +21,59 @@ static int planted(const char *name)
     return chosen != NULL && strcmp(chosen, name) == 0;
 }
 
+/* What a mistake makes of an output that stands on a half: the number above, as before request U6, or the one away from
+   zero. Another output stays. The value of the kernel at the register over the newest four samples is n / unit. */
+static int16_t mistake_half(int kernel, uint32_t position, const int16_t *newest, int16_t output)
+{
+    const int16_t *x = newest + (kernel < 2);
+    int64_t p = 16384, m = position >> 18, xm = x[0], x0 = x[1], x1 = x[2], x2 = kernel < 2 ? 0 : x[3];
+    const int64_t columns[4][5] = {
+        {1, x0, x1 - x0, 0, 0},
+        {2, 2 * x0, x1 - xm, x1 - 2 * x0 + xm, 0},
+        {2, 2 * x0, -x2 + 3 * x1 - x0 - xm, x2 - x1 - x0 + xm, 0},
+        {6, 6 * x0, -x2 + 6 * x1 - 3 * x0 - 2 * xm, 3 * (x1 - 2 * x0 + xm), x2 - 3 * x1 + 3 * x0 - xm}};
+    const int64_t *v = columns[kernel];
+    m -= kernel == 1 && m >= p / 2 ? p : 0;
+    int64_t n = ((v[4] * m + v[3] * p) * m + v[2] * p * p) * m + v[1] * p * p * p, unit = v[0] * p * p * p;
+    if (n % unit != unit / 2 && n % unit != -unit / 2)
+        return output;
+    int64_t away = n / unit + (n > 0 ? 1 : -1), value = planted("halves away") || n > 0 ? away : n / unit;
+    return (int16_t)(value > 32767 ? 32767 : value < -32768 ? -32768 : value);
+}
+
+/* Goes over the outputs of a feed, from the image before it, and tells whether one was changed. */
+static int mistake_halves(const uint8_t *before, const uint8_t *input, uint8_t *output, size_t written)
+{
+    int kernel = before[RESAMPLER_AT_KERNEL], changed = 0;
+    uint32_t position = resampler_number(before + RESAMPLER_AT_REGISTER);
+    uint64_t needed = before[RESAMPLER_AT_NEEDED], whole = resampler_number(before + RESAMPLER_AT_WORD + 4);
+    int16_t newest[RESAMPLER_WINDOW];
+    for (size_t i = 0; i < RESAMPLER_WINDOW; i++)
+        newest[i] = resampler_sample(before + RESAMPLER_AT_WINDOW, i);
+    for (size_t k = 0; k < written; k++) {
+        for (; needed > 0; needed--, input += RESAMPLER_SAMPLE_BYTES) {
+            memmove(newest, newest + 1, sizeof newest - sizeof *newest);
+            newest[RESAMPLER_WINDOW - 1] = resampler_sample(input, 0);
+        }
+        int16_t right = resampler_sample(output, k), wrong = mistake_half(kernel, position, newest, right);
+        resampler_put_sample(output, k, wrong);
+        changed |= wrong != right;
+        uint32_t next = position + resampler_number(before + RESAMPLER_AT_WORD);
+        needed = whole + (next < position) + (kernel == 1 ? (next >> 31) - (uint64_t)(position >> 31) : 0);
+        position = next;
+    }
+    return changed;
+}
+
 uint32_t __wrap_resampler_feed(uint8_t *image, size_t image_length, const uint8_t *input, size_t input_length,
                                uint8_t *output, size_t output_length)
 {
-    static int feeds;
+    static int feeds, made;
+    uint8_t before[RESAMPLER_IMAGE_BYTES];
+    memcpy(before, image, image_length < sizeof before ? image_length : sizeof before);
     uint32_t result = __real_resampler_feed(image, image_length, input, input_length, output, output_length);
+    if (result == 0 && !made && (planted("halves upward") || planted("halves away")))
+        made = mistake_halves(before, input, output, resampler_written(image));
     if (result != 0 || resampler_written(image) == 0 || ++feeds != 3)
         return result;
     if (planted("register"))

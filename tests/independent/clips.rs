@@ -64,6 +64,13 @@ impl From<Clips> for Shown {
 }
 
 impl Shown {
+    pub fn sum(self) -> usize {
+        match self {
+            Shown::Both(both) => both.sum(),
+            Shown::Sum(sum) => sum,
+        }
+    }
+
     /// Whether these clips would be shown so.
     pub fn is_of(self, clips: Clips) -> bool {
         match self {

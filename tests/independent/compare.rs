@@ -1,5 +1,5 @@
 //! The comparison of a library with the implementation and with the paper's run: on frame lines, then
-//! over random chains of calls on one converter, then on lanes.
+//! over random chains of calls on one converter, then on lanes, then with turned samples.
 
 use crate::calls::{self, Left};
 use crate::clips::Shown;
@@ -17,6 +17,7 @@ use crate::random::Random;
 use crate::settings::Setting;
 use crate::state::{Fed, State};
 use crate::tally::Tally;
+use crate::turned_lists::{self, LISTS};
 
 /// How much to compare: chains are made until both numbers are reached; on lanes a sixth of the
 /// calls is enough, and on lines half of them are drawn.
@@ -26,7 +27,8 @@ pub struct Amount {
     pub seed: u64,
 }
 
-/// How many single outputs of each kernel are made at each limit.
+/// How many single outputs of each kernel are made on a half of each kind, and at each limit.
+const ON_HALF: usize = 1000;
 const AT_LIMIT: usize = 500;
 
 /// Compares, prints the tables, and says what the first difference is, if there is one.
@@ -49,7 +51,17 @@ pub fn run(amount: &Amount) -> Result<(), String> {
     comparison.lanes()?;
     comparison.chains(amount.calls / 6, amount.outputs)?;
     comparison.tell_lanes()?;
-    comparison.tally.complete()
+    comparison.tally.complete()?;
+    turned_samples(&mut comparison.library, amount.seed)
+}
+
+/// Lists with turned samples by the library, and the same by the implementation.
+pub fn turned_samples(library: &mut Library, seed: u64) -> Result<(), String> {
+    let found = turned_lists::make(seed, LISTS, &mut |call| library.answer(call))?;
+    match found == turned_lists::on_model(seed, LISTS)? {
+        true => turned_lists::tell(&found),
+        false => Err("turned samples: the library and the implementation differ".to_string()),
+    }
 }
 
 pub struct Comparison {
@@ -116,7 +128,7 @@ impl Comparison {
     /// Single outputs from stored states that are hard to round, or at a limit.
     fn halves(&mut self) -> Result<(), String> {
         for kernel in 0..4 {
-            let mut states = halves::exact(&mut self.random, kernel, 1000);
+            let mut states = halves::exact(&mut self.random, kernel, ON_HALF);
             states.extend(halves::narrow(&mut self.random, kernel));
             for halves in halves::limits(kernel) {
                 let random = &mut self.random;
@@ -131,7 +143,7 @@ impl Comparison {
                 self.feed(&mut chain, &call)?;
             }
         }
-        Ok(())
+        self.tally.on_halves()
     }
 
     /// Makes chains until there are at least so many calls and outputs.

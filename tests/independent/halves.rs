@@ -9,6 +9,20 @@ use crate::state::{self, State};
 
 const TABLE: usize = 1 << 20;
 
+/// What a half is like: the whole number below it is even or odd, and it is above or below zero.
+pub const KINDS: [&str; 4] = ["even, above 0", "odd, above 0", "even, below 0", "odd, below 0"];
+
+/// The place among `KINDS` of a value that is a half; it is given times `kernels::scale(kernel, 14)`.
+pub fn kind(kernel: u8, exact: i128) -> Option<usize> {
+    // Over 64 bits, which is quicker: a value times its scale is below 2^62.
+    let (scale, exact) = (kernels::scale(kernel, 14) as i64, exact as i64);
+    let lower = exact.div_euclid(scale);
+    (2 * (exact - lower * scale) == scale).then(|| {
+        let odd = lower.rem_euclid(2) as usize;
+        odd + if exact < 0 { 2 } else { 0 }
+    })
+}
+
 /// How far `state`'s next value lies above the half that is nearest to it, times `scale`.
 pub fn above_half(state: &State) -> i128 {
     let scale = kernels::scale(state.kernel, 14);
@@ -21,16 +35,17 @@ pub fn nearest(kernel: u8) -> i128 {
     [1 << 28, 1 << 14, 1 << 14, 32][kernel as usize]
 }
 
-/// States at a half.
+/// States at a half, so many of each kind.
 pub fn exact(random: &mut Random, kernel: u8, count: usize) -> Vec<State> {
-    let mut found = Vec::new();
-    while found.len() < count {
+    let (mut found, mut missing) = (Vec::new(), [count; KINDS.len()]);
+    while missing != [0; KINDS.len()] {
         let register = (random.below(15) as u32 + 1) << 28;
         let size = random.pick(&[3, 200, 65536]);
         let sample = |_: i16| (random.below(size) as i64 - size as i64 / 2) as i16;
         let window = [0; 4].map(sample);
         let state = State { kernel, needed: 0, register, word: 1 << 32, window };
-        if above_half(&state) == 0 {
+        if let Some(kind) = kind(kernel, state::exact(&state)).filter(|&kind| missing[kind] > 0) {
+            missing[kind] -= 1;
             found.push(state);
         }
     }
@@ -38,7 +53,8 @@ pub fn exact(random: &mut Random, kernel: u8, count: usize) -> Vec<State> {
 }
 
 /// The limits of 16 bits, and a half past each, in halves. By request U5 the first is neither high
-/// nor low, the second, which is rounded to 32768, high, and the others neither: halves go upward.
+/// nor low, the second high and the others neither: by request U6 the halves are rounded to the even
+/// neighbours, 32768 and −32768.
 pub const LIMITS: [i128; 4] = [65534, 65535, -65536, -65537];
 
 /// Those that a kernel comes to: the value of the linear one lies between its samples.

@@ -1,6 +1,7 @@
 //! The four kernels over whole numbers. Document 01, "Kernels".
 
 use crate::clips::Side;
+use std::cmp::Ordering::{Equal, Greater, Less};
 
 /// The samples around a basepoint b: "x0 is sample b, x1 is sample b+1, xm is sample b−1, x2 is
 /// sample b+2". Kernels with R = 1 leave x2 unused.
@@ -61,12 +62,24 @@ pub fn value(kernel: u8, near: &Near, part: i128, bits: u32) -> i128 {
         + at3 * square * part
 }
 
-/// The output of an exact value at m, times `scale`, and on which side it clips: "The value is
-/// kept exact, rounded to the nearest whole number with halves upward, then held to
-/// −32768..32767. A held output counts as one clip."
-pub fn output(kernel: u8, exact: i128) -> (i16, Side) {
+/// The whole number nearest to an exact value at m, which is given times `scale`. Request U6: "an
+/// output halfway between two whole numbers takes the even one".
+pub fn rounded(kernel: u8, exact: i128) -> i128 {
     let scale = scale(kernel, 14);
-    let rounded = floor_div(2 * exact + scale, 2 * scale);
+    let lower = floor_div(exact, scale);
+    let twice_the_rest = 2 * (exact - lower * scale);
+    match twice_the_rest.cmp(&scale) {
+        Less => lower,
+        Equal if lower % 2 == 0 => lower,
+        Equal | Greater => lower + 1,
+    }
+}
+
+/// The output of an exact value at m, times `scale`, and on which side it clips: "The value is
+/// kept exact, rounded to the nearest whole number", "then held to −32768..32767. A held output
+/// counts as one clip."
+pub fn output(kernel: u8, exact: i128) -> (i16, Side) {
+    let rounded = rounded(kernel, exact);
     let (held, side) = (rounded.clamp(-32768, 32767), Side::of(rounded));
     assert_eq!(held != rounded, side.is_clip());
     (held as i16, side)

@@ -43,6 +43,8 @@ mod sheets;
 mod state;
 #[cfg(library)]
 mod tally;
+mod turned;
+mod turned_lists;
 mod values;
 mod vectors;
 
@@ -51,6 +53,8 @@ use std::process::ExitCode;
 const USAGE: &str = "usage:
   compare [--long] [--outputs N] [--calls N] [--seed S]
                         holds the library that this is linked with against the implementation
+  turned                a part of this, on lists of calls with turned samples; without a library
+                        on the implementation itself
   program PATH [ARGUMENT ..]
                         the same for a program, on drawn inputs
   vectors DIR --check   whether the files of DIR have the implementation's answers
@@ -80,6 +84,10 @@ fn command(words: &[&str]) -> Result<(), String> {
     match words {
         #[cfg(library)]
         ["compare", words @ ..] => compare::run(&amount(words)?),
+        #[cfg(library)]
+        ["turned"] => compare::turned_samples(&mut library::Library::new(), 1),
+        #[cfg(not(library))]
+        ["turned"] => turned_lists::tell(&turned_lists::on_model(1, turned_lists::LISTS)?),
         ["program", command @ ..] if !command.is_empty() => processes::run(command),
         ["vectors", folder, "--write"] => vectors::write(folder),
         ["vectors", folder, "--check"] => vectors::check(folder),

@@ -1,5 +1,5 @@
 //! The settled examples of document 01, starred or not, the printed examples of the program, and
-//! what requests U1 to U5 settle, run on the implementation before every command.
+//! what requests U1 to U6 settle, run on the implementation before every command.
 
 use crate::clips::{Clips, Side, Side::*};
 use crate::frame_image;
@@ -16,9 +16,12 @@ use crate::program;
 use crate::random::Random;
 use crate::settings::{self, Setting};
 use crate::state::{self, End, Fed};
+use crate::turned_lists;
 use crate::values;
 
 const HALF: u64 = 1 << 31;
+/// How many lists of calls are made with turned samples too (request U6), and how many on lanes.
+const TURNED: [usize; 2] = [40, 10];
 
 /// Runs all examples: how many hold, or which does not.
 pub fn run() -> Result<usize, String> {
@@ -35,11 +38,13 @@ pub fn run() -> Result<usize, String> {
     examples.extend(order());
     examples.extend(sides());
     examples.extend(counts());
+    examples.extend(evens());
     examples.extend(facts());
-    match examples.iter().find(|(_, holds)| !holds) {
-        Some((name, _)) => Err(format!("settled example does not hold: {name}")),
-        None => Ok(examples.len()),
+    if let Some((name, _)) = examples.iter().find(|(_, holds)| !holds) {
+        return Err(format!("settled example does not hold: {name}"));
     }
+    turned_lists::on_model(1, TURNED)?;
+    Ok(examples.len())
 }
 
 type Example = (&'static str, bool);
@@ -93,7 +98,7 @@ fn single_outputs() -> Vec<Example> {
             "kernel 2 at u = 1/2 over 16, 32, 48, 80: 38",
             at_half(2, [16, 32, 48, 80]) == (38, Neither),
         ),
-        ("kernel 0 at 1/2: 0, 1 gives 1", at_half(0, [0, 0, 0, 1]) == (1, Neither)),
+        ("kernel 0 at 1/2: 0, 1 gives 0 (request U6)", at_half(0, [0, 0, 0, 1]) == (0, Neither)),
         ("kernel 0 at 1/2: 0, -1 gives 0", at_half(0, [0, 0, 0, -1]) == (0, Neither)),
         (
             "kernel 3 at 1/2: -32768, 32767, 32767, -32768 gives 32767, one clip",
@@ -375,6 +380,34 @@ fn counts() -> Vec<Example> {
         ("lanes past the count report none", (3..16).all(|lane| sides(lane) == [0, 0])),
         ("a start of lanes leaves none", fresh_counts),
         ("the E line has their sum", ended.ends_with(b"E00000000000000080000000000000002\n")),
+    ]
+}
+
+/// Request U6, on single outputs at u = 1/2, of kernel 1 at −1/2: a half past `lower`, and its even
+/// neighbour. The windows of the kernels are distances from `lower` that give the half. And words
+/// "from ratios and rates still go upward"; rates give no halves.
+fn evens() -> Vec<Example> {
+    let windows = [[0, 0, 0, -1], [0, 0, 0, 4], [2, 0, 0, 2], [4, 0, 0, 4]];
+    let is = |lower: i16, even: i16| {
+        (0..4).zip(windows).all(|(kernel, window)| {
+            let window = window.map(|distance| lower - distance);
+            let state = state::State { kernel, needed: 0, register: 1 << 31, word: 1, window };
+            2 * state::exact(&state) == (2 * lower as i128 + 1) * kernels::scale(kernel, 14)
+                && values::output(kernel, (1 << 31, window)) == Ok((even, Neither))
+        })
+    };
+    let word = |halves: f64| settings::word(Setting::Ratio((halves * 2f64.powi(-33)).to_bits()));
+    vec![
+        ("1/2 gives 0, and -1/2", is(0, 0) && is(-1, 0)),
+        ("1 1/2 gives 2, -1 1/2 gives -2", is(1, 2) && is(-2, -2)),
+        ("2 1/2 gives 2, -2 1/2 gives -2", is(2, 2) && is(-3, -2)),
+        ("255 1/2 gives 256, -256 1/2 gives -256", is(255, 256) && is(-257, -256)),
+        ("32765 1/2 gives 32766, -32763 1/2 gives -32764", is(32765, 32766) && is(-32764, -32764)),
+        ("32766 1/2 gives 32766, -32762 1/2 gives -32762", is(32766, 32766) && is(-32763, -32762)),
+        (
+            "1/2, 1 1/2 and 2 1/2 as words give 1, 2 and 3",
+            [1.0, 3.0, 5.0].map(word) == [Ok(1), Ok(2), Ok(3)],
+        ),
     ]
 }
 

@@ -17,6 +17,8 @@ const COUNTED: [&str; 7] =
 /// How many values of each kernel there have to be at every limit that it comes to, and between a
 /// limit and the half past it.
 const AT_LIMITS: u64 = 500;
+/// How many values of each kernel there have to be on a half of each kind.
+const HALVES: u64 = 1000;
 
 #[derive(Default)]
 pub struct Tally {
@@ -32,6 +34,8 @@ pub struct Tally {
     /// By kernel.
     clips: [Clips; 4],
     limits: [Limits; 4],
+    /// By kernel and `halves::KINDS`.
+    halves: [[u64; 4]; 4],
     /// By kernel the largest distance to the paper's value, and the smallest margin to the bound,
     /// multiplied by `kernels::scale(kernel, 32)`.
     nearest: [Option<Distance>; 4],
@@ -103,6 +107,9 @@ impl Tally {
             self.clips[place].count(seen.side);
             self.limits[place].count(kernel, seen.exact);
         }
+        if let Some(kind) = halves::kind(kernel, seen.exact) {
+            self.halves[place][kind] += 1;
+        }
         let Distance { is, may_be } = seen.distance;
         let nearest = self.nearest[place].get_or_insert(Distance { is, may_be });
         nearest.is = nearest.is.max(is);
@@ -137,6 +144,10 @@ impl Tally {
         for (kernel, limits) in self.limits.iter().enumerate() {
             print_row(&format!("kernel {kernel}"), limits.counts());
         }
+        print_row("on a half, over", halves::KINDS);
+        for (kernel, halves) in self.halves.iter().enumerate() {
+            print_row(&format!("kernel {kernel}"), halves);
+        }
     }
 
     /// How many calls of each kind were answered how; the text says where they were made.
@@ -158,6 +169,14 @@ impl Tally {
     fn sides(&self, kernel: u8) -> [u64; 2] {
         let Clips { high, low } = self.clips[kernel as usize];
         [high as u64, low as u64]
+    }
+
+    /// Whether there are enough values on a half of each kind, of every kernel.
+    pub fn on_halves(&self) -> Result<(), String> {
+        match self.halves.as_flattened().iter().all(|&count| count >= HALVES) {
+            true => Ok(()),
+            false => Err(format!("values on a half, by kernel: {:?}, some too few", self.halves)),
+        }
     }
 
     /// A comparison that misses an answer of a call, or something that is counted of a kernel, says

@@ -12,4 +12,5 @@ pub mod Third
 pub mod SideCounts
 pub mod Traces
 pub mod OneFeed
+pub mod TurnedRuns
 pub mod MostOutputs

@@ -7,10 +7,10 @@ use mathlib.Core.Path.{_≡_, refl, _∙_, ap}
 use mathlib.Core.List.{List, [], _∷_}
 use Prim.Native.Nat.{ℕ, _+_, _*_, _/_, _<_}
 use native.Mathlib.Omega.{arith}
-use native.Mathlib.Nat.{div-mul-le-self, lt-div-mul-add, div-div-eq-div-mul, mul-pos, mul-le-mul-right, mul-lt-mul-of-pos-right}
+use native.Mathlib.Nat.{div-mul-le-self, lt-div-mul-add, div-div-eq-div-mul}
 use lib.IntN.{ℤ, pos, negsuc, _+ℤ_, _-ℤ_, _*ℤ_, +ℤ-negℤ-cancel}
 use lib.Signed.{_≤ℤ_, _<ℤ_, shrZ, quotZ}
-use Rattle.integers.specs.Ring.{Expr, var, lit, _:+_, _:*_, ring}
+use Rattle.integers.specs.Ring.{Expr, var, lit, _:+_, _:*_}
 use Rattle.integers.specs.Order.{≤ℤ-trans, ≤ℤ-antisym, ≤ℤ-<ℤ-trans, <ℤ-suc, *ℤ-lt-cancel}
 use Rattle.integers.specs.Inequality.{goal≤, goal<, hyp≤, hyp<}
 
@@ -79,19 +79,10 @@ floor-bias z k d h =
 pub floor-unbias : (z k : ℤ) (d : ℕ) → 0 < d → floorDiv (z +ℤ k *ℤ pos d) d -ℤ k ≡ floorDiv z d
 floor-unbias z k d h = ap (λ (q : ℤ). q -ℤ k) (floor-bias z k d h) ∙ +ℤ-negℤ-cancel (floorDiv z d) k
 
--- ---- a quotient in two steps, and one whose sides have a factor in common
+-- ---- a quotient in two steps
 pub floor-floor : (z : ℤ) (c d : ℕ) → floorDiv (floorDiv z c) d ≡ floorDiv z (c * d)
 floor-floor (pos a) c d = ap pos (div-div-eq-div-mul a c d)
 floor-floor (negsuc a) c d = ap negsuc (div-div-eq-div-mul a c d)
-
-pub floor-scale : (z : ℤ) (d k : ℕ) → 0 < d → 0 < k → floorDiv (z *ℤ pos k) (d * k) ≡ floorDiv z d
-floor-scale z d k h l =
-    let f : IsFloor z d (floorDiv z d) = floor-is z d h in
-    let ρ : List ℤ = z ∷ floorDiv z d ∷ pos d ∷ pos k ∷ [] in
-    let K : Expr = var 3 in
-    let low = mul-le-mul-right k (hyp≤ ρ (Q :* D) Z (f .low)) in
-    let high = mul-lt-mul-of-pos-right (hyp< ρ Z ((Q :+ one) :* D) (f .high)) l in
-    floor-eq (mul-pos h l) (record { low = goal≤ ρ (Q :* (D :* K)) (Z :* K) (omega arith); high = goal< ρ (Z :* K) ((Q :+ one) :* (D :* K)) (omega arith) })
 
 -- ---- by what the machine has: a shift that copies the sign, and a quotient toward zero of what is not negative
 pub shr-floor : (z : ℤ) (d : ℕ) → shrZ z d ≡ floorDiv z d
@@ -140,15 +131,3 @@ round-eq {z} {d} {q} h k = floor-eq (omega arith) (round-floor z d q k)
 -- by an even divisor: add half of it, and round down
 pub round-even : (z : ℤ) (d : ℕ) → 0 < d → roundDiv z (2 * d) ≡ floorDiv (z +ℤ pos d) (2 * d)
 round-even z d h = let l : 0 < 2 * d = omega arith in round-eq {z = z} l (even-round z d _ (floor-is (z +ℤ pos d) (2 * d) l))
-
-pub round-mono : (d : ℕ) → 0 < d → {x y : ℤ} → x ≤ℤ y → roundDiv x d ≤ℤ roundDiv y d
-round-mono d h {x} {y} l =
-    let ρ : List ℤ = x ∷ y ∷ pos d ∷ [] in
-    floor-mono (2 * d) (omega arith) (goal≤ ρ (two :* var 0 :+ D) (two :* var 1 :+ D) (omega (arith, hyp≤ ρ (var 0) (var 1) l)))
-
-pub round-scale : (z : ℤ) (d k : ℕ) → 0 < d → 0 < k → roundDiv (z *ℤ pos k) (d * k) ≡ roundDiv z d
-round-scale z d k h l =
-    let e : 2 * (d * k) ≡ 2 * d * k = omega arith in
-    let n : pos 2 *ℤ (z *ℤ pos k) +ℤ pos (d * k) ≡ (pos 2 *ℤ z +ℤ pos d) *ℤ pos k
-    = ring (z ∷ pos k ∷ pos d ∷ []) (two :* (Z :* var 1) :+ D :* var 1) ((two :* Z :+ D) :* var 1) tt in
-    (λ i. floorDiv (n i) (e i)) ∙ floor-scale (pos 2 *ℤ z +ℤ pos d) (2 * d) k (omega arith) l

@@ -1,4 +1,5 @@
 mod CoefficientTable
 mod Scales
 mod Mean
+mod Sixths
 pub mod Sizes

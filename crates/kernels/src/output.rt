@@ -3,7 +3,7 @@ use crate::filter::COEFFICIENTS;
 use crate::filter::short_numerator;
 use kernels_spec::Side;
 ghost use mathlib.Core.Path.{_≡_};
-ghost use Prim.Native.Nat.{_^_, _<_};
+ghost use Prim.Native.Nat.{_*_, _^_, _<_};
 ghost use lib.IntN.{pos, _*ℤ_};
 ghost use Rattle.integers.specs.Floor.{floorDiv};
 ghost use Rattle.integers.specs.Within.{Within};
@@ -33,18 +33,37 @@ fn sixth(n: i64) -> i64
     (n + 0x60_0000) / 6 - 0x10_0000
 }
 
-// What `short_numerator` gives, to the nearest whole number: half of the kernel's unit at its own degree is added, and the sum rounded down.
+// n by 6 · 2^42 to the nearest whole number, halves to the even one. Half of 6 · 2^42 is added, and the sum is rounded down, in sixths. One sixth is taken off where x = n + 2^42 is a multiple
+// of 2^44: of these only the halves with an odd upper neighbour are changed by it.
+fn cubic_round(n: i64) -> i64
+    requires { ⌜ Within largestNumerator n ⌝ }
+    ensures { λ r. ⌜ r ≡ nearestWhole n (6 * 2 ^ 42) ⌝ }
+{
+    let x = n + 0x400_0000_0000;
+    let mut sixths = (x >> 42) + 2;
+    if (x >> 44) * 0x1000_0000_0000 == x {
+        sixths -= 1;
+    }
+    sixth(sixths)
+}
+
+// What `short_numerator` gives, to the nearest whole number, halves to the even one. By a power of two: half of it less 1 is added, and 1 more where the quotient is odd; then the sum is
+// rounded down. In the machine code no branch asks for a half: decision 105.
 fn round(kernel: u8, n: i64) -> i64
     requires { ⌜ (kernel < 4) × Within largestNumerator (n *ℤ pos (spare (kernelOf kernel))) ⌝ }
     ensures { λ r. ⌜ r ≡ nearestWhole (n *ℤ pos (spare (kernelOf kernel))) (unit (kernelOf kernel) (2 ^ 14)) ⌝ }
 {
     if kernel == 0 {
-        return (n + 0x2000) >> 14;
+        let q = n >> 14;
+        let odd = q - (q >> 1) * 2;
+        return (n + 0x1fff + odd) >> 14;
     }
     if kernel == 3 {
-        return sixth((n + 0xc00_0000_0000) >> 42);
+        return cubic_round(n);
     }
-    (n + 0x1000_0000) >> 29
+    let q = n >> 29;
+    let odd = q - (q >> 1) * 2;
+    (n + 0xfff_ffff + odd) >> 29
 }
 
 // Holds a rounded value to 16 bits.

@@ -5,6 +5,7 @@ pub mod NearestWhole
 pub mod Hold
 pub mod Counting
 pub mod SideLaws
+pub mod TurnedValue
 pub mod Card
 pub mod Near
 pub mod Close

@@ -4,4 +4,5 @@ pub mod Value
 pub mod Distance
 pub mod Demand2
 pub mod Sides
+pub mod Halves
 pub mod Excess

@@ -3,8 +3,9 @@
 -- Every value is a whole number over `unit`: one formula serves the card, at u = m/2^14, and the paper, at u = f/2^32.
 use mathlib.Core.Bool.{Bool, cond, _||_}
 use mathlib.Core.List.{List, _∷_}
-use Prim.Native.Nat.{ℕ, _+_, _-_, _*_, _^_}
-use lib.IntN.{ℤ, pos, negℤ, _+ℤ_, _*ℤ_}
+use Prim.Native.Nat.{ℕ, _+_, _-_, _*_, _^_, _%_}
+use lib.Dec.{eqb}
+use lib.IntN.{ℤ, pos, negℤ, natAbs, _+ℤ_, _*ℤ_}
 use lib.ListN.{length, drop}
 use lib.Signed.{ltZ}
 use Rattle.integers.specs.Floor.{roundDiv}
@@ -32,9 +33,13 @@ unfoldable pub unit : Kernel → ℕ → ℕ
 unit κ s = κ .denominator * s ^ 3
 
 -- ---- the card: "The filter uses m .. and u = m/16384"
--- "rounded to the nearest whole number with halves upward": z/d
+abbrev pub isEven : ℤ → Bool
+isEven z = eqb (natAbs z % 2) 0
+
+-- "rounded to the nearest whole number", and by request U6 "an output halfway between two whole numbers takes the even one": of z/d, the nearest with halves upward where that is even, and
+-- else the nearest with halves downward
 unfoldable pub nearestWhole : ℤ → ℕ → ℤ
-nearestWhole z d = roundDiv z d
+nearestWhole z d = cond (isEven (roundDiv z d)) (roundDiv z d) (negℤ (roundDiv (negℤ z) d))
 
 -- "The value is kept exact, rounded .."
 unfoldable pub rounded : Kernel → Samples → ℤ → ℤ

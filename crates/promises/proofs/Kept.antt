@@ -2,9 +2,12 @@
 use Rattle.oscillator_spec.proofs.PrintedRows.{three-point-table}
 use Rattle.kernels_spec.proofs.Card.{second}
 use Rattle.kernels_spec.proofs.Close.{near-paper}
+use Rattle.kernels_spec.proofs.NearestWhole.{halves-to-even}
 use Rattle.kernels_spec.proofs.SideLaws.{exact-sides}
+use Rattle.kernels_spec.proofs.TurnedValue.{turned-value}
 use Rattle.converter_spec.proofs.Third.{third}
 use Rattle.converter_spec.proofs.SideCounts.{counted-sides}
+use Rattle.converter_spec.proofs.TurnedRuns.{turned-run}
 use Rattle.lanes_spec.proofs.LanesAlone.{each-lane-alone}
 use Rattle.lanes_spec.proofs.OneLane.{only-that-lane}
 use Rattle.lanes_spec.proofs.LanesThird.{lanes-third}
@@ -50,4 +53,7 @@ promises = record {
   counted-sides = counted-sides;
   host-sides = host-sides;
   end-sum = end-sum;
+  halves-to-even = halves-to-even;
+  turned-value = turned-value;
+  turned-run = turned-run;
 }

@@ -3,8 +3,10 @@
 use Rattle.oscillator_spec.specs.ThreePointTable.{ThreePointTable}
 use Rattle.kernels_spec.specs.Demand2.{Second, NearPaper}
 use Rattle.kernels_spec.specs.Sides.{ExactSides}
+use Rattle.kernels_spec.specs.Halves.{HalvesToEven, TurnedValue}
 use Rattle.converter_spec.specs.Demand.{Third}
 use Rattle.converter_spec.specs.CountedSides.{CountedSides}
+use Rattle.converter_spec.specs.TurnedRun.{TurnedRun}
 use Rattle.lanes_spec.specs.LaneFeeding.{EachLaneAlone}
 use Rattle.lanes_spec.specs.LaneDemand.{OnlyThatLane, LanesThird}
 use Rattle.host_spec.specs.Calls.{OnTheState, HostThird}
@@ -73,3 +75,9 @@ pub record Promises : Type 0 where
   pub host-sides : HostSides
   -- request U5: "The E line .. carr[ies] their sum"
   pub end-sum : EndSum
+  -- request U6: "an output halfway between two whole numbers takes the even one"
+  pub halves-to-even : HalvesToEven
+  -- request U6, of one output: "Turning a sensor round should turn every output round, where neither run has −32768 as .. an output"
+  pub turned-value : TurnedValue
+  -- and over any two lists of calls from an accepted start, one with the samples of a sensor and one with those of the sensor turned round
+  pub turned-run : TurnedRun

@@ -1,4 +1,5 @@
--- The starred settled examples of document 01, as one group: a record with a field for each sentence, in its order; those that speak of runs, through the definitions of start and feed.
+-- The starred settled examples of document 01, as one group (one of them as request U6 has it): a record with a field for each sentence, in its order; those that speak of runs, through the
+-- definitions of start and feed.
 -- Definitions only; the record's one value is `starred` in proofs/StarredExamples.antt.
 use mathlib.Core.Path.{_≡_}
 use mathlib.Core.Bool.{Bool, true, false}
@@ -66,8 +67,8 @@ pub record Starred : Type 0 where
   pub around-half : (b 0x7FFFFFFF ≡ 0) × (m 0x7FFFFFFF ≡ pos 8191) × (b 0x80000000 ≡ 1) × (m 0x80000000 ≡ − 8192)
   -- "Fraction 3FFFF hexadecimal: m 0; 40000: m 1."
   pub fourteen : (fourteenBits (pos 0x3FFFF) ≡ pos 0) × (fourteenBits (pos 0x40000) ≡ pos 1)
-  -- "Kernel 0 at 1/2: 0, 1 gives 1; 0, −1 gives 0."
-  pub halves : (output (kernelOf 0) (four (pos 0) (pos 0) (pos 1) (pos 0)) half ≡ pos 1) × (output (kernelOf 0) (four (pos 0) (pos 0) (− 1) (pos 0)) half ≡ pos 0)
+  -- request U6: "0, 1 at one half now gives 0; 0, −1 still gives 0"
+  pub halves : (output (kernelOf 0) (four (pos 0) (pos 0) (pos 1) (pos 0)) half ≡ pos 0) × (output (kernelOf 0) (four (pos 0) (pos 0) (− 1) (pos 0)) half ≡ pos 0)
   -- "Kernel 3 at 1/2: −32768, 32767, 32767, −32768 gives 32767, one clip.", on the high side. In a run it is the second output, at 3/2
   pub clip : (output (kernelOf 3) (four (− 32768) (pos 32767) (pos 32767) (− 32768)) half ≡ pos 32767) × (clips (kernelOf 3) (four (− 32768) (pos 32767) (pos 32767) (− 32768)) half ≡ sideClips HIGH)
   pub one-clip : (outputsOf (card 3 (2 ^ 32) (2 ^ 31)) extremes 9 ≡ − 2048 ∷ pos 32767 ∷ []) × (total (fedOf (card 3 (2 ^ 32) (2 ^ 31)) extremes 9 .counts .clips) ≡ 1)
