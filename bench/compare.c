@@ -22,6 +22,7 @@
 #include "measure.h"
 #include "plain.h"
 #include "resampler.h"
+#include "wave.h"
 
 typedef uint32_t start_function(uint8_t *, size_t, uint32_t, uint64_t, uint32_t);
 typedef uint32_t feed_function(uint8_t *, size_t, const uint8_t *, size_t, uint8_t *, size_t);
@@ -125,21 +126,6 @@ enum { ROWS = 16 * BLOCKS };
 
 static uint8_t wave[2 * SAMPLES], input[2 * SAMPLES], outputs[MAKERS][OUTPUT_BYTES];
 static size_t samples = SAMPLES;
-
-/* A triangle of some 90 samples with a little noise, at nine tenths of the range, or noise alone, large or small. */
-static void fill(int loud, int half)
-{
-    uint32_t seed = 1;
-    uint32_t phase = 0;
-    for (size_t i = 0; i < SAMPLES; i++) {
-        phase += 47721859;
-        int32_t ramp = (int32_t)(phase >> 15) - 65536;
-        int32_t triangle = (ramp < 0 ? -ramp : ramp) - 32768;
-        int32_t noise = (int32_t)draw(&seed) - 32768;
-        resampler_put_sample(wave, i,
-                             (int16_t)(loud ? noise : half ? noise / 256 : triangle * 7 / 8 + noise / 40));
-    }
-}
 
 /* A row of the table. A call is lent so many bytes of input and of output; `made` counts the outputs of all calls. */
 struct row {
@@ -301,7 +287,7 @@ int main(int argc, char **argv)
     size_t words = half ? 1 : 4, count = 4 * BLOCKS * words; /* kernels, blocks, words */
     for (size_t i = 0; i < count; i++)
         set_row(&rows[i], (uint32_t)(i / words / BLOCKS), blocks[i / words % BLOCKS], ratios[i % words]);
-    fill(loud, half);
+    fill(wave, SAMPLES, loud, half);
     for (int round = 0; round < rounds; round++) {
         for (size_t i = 0; i < count; i++)
             time_row(&rows[i], runs);

@@ -98,7 +98,7 @@ static inline double median(struct times *times, size_t maker)
 #define COLUMNS "library  plain C  ratio"
 #endif
 
-static void print_times(struct times *times, double made)
+static inline void print_times(struct times *times, double made)
 {
     const double *best = times->best;
 #if defined LANES

@@ -298,3 +298,71 @@ uint32_t plain_host_feed_lanes(uint8_t *image, size_t image_length, uint32_t lan
     memset(clips + lanes * RESAMPLER_LANE_CLIPS_BYTES, 0, (RESAMPLER_MOST_LANES - lanes) * RESAMPLER_LANE_CLIPS_BYTES);
     return RESAMPLER_ACCEPTED;
 }
+
+/* The marks of a ring, as their 8 bytes have them. */
+struct ring {
+    uint32_t front, held;
+};
+
+/* Reads the marks, and tells whether they agree with a queue buffer of so many bytes. */
+static int get_ring(struct ring *r, const uint8_t *marks, size_t marks_length, size_t queue_length)
+{
+    size_t samples = queue_length / 2;
+    if (marks_length != RESAMPLER_MARKS_BYTES || samples > RESAMPLER_QUEUE_SAMPLES)
+        return 0;
+    memcpy(r, marks, sizeof *r);
+    return r->held <= samples && (r->front < samples || (r->front == 0 && samples == 0));
+}
+
+/* A place of the ring, for one below twice its number of samples. */
+static size_t wrapped(size_t place, size_t samples)
+{
+    return place < samples ? place : place - samples;
+}
+
+static size_t smaller(size_t a, size_t b)
+{
+    return a < b ? a : b;
+}
+
+uint32_t plain_push(uint8_t *marks, size_t marks_length, uint8_t *queue, size_t queue_length, const uint8_t *samples,
+                    size_t samples_length)
+{
+    struct ring r;
+    size_t length = queue_length / 2, count = samples_length / 2;
+    if (!get_ring(&r, marks, marks_length, queue_length))
+        return RESAMPLER_BAD_IMAGE;
+    if (queue_length % 2 != 0 || !is_buffer(samples_length))
+        return RESAMPLER_BAD_BUFFER;
+    if (count > length - r.held)
+        return RESAMPLER_QUEUE_FULL;
+    size_t at = wrapped(r.front + r.held, length), first = smaller(count, length - at);
+    memcpy(queue + 2 * at, samples, 2 * first);
+    memcpy(queue, samples + 2 * first, 2 * (count - first));
+    r.held += (uint32_t)count;
+    memcpy(marks, &r, sizeof r);
+    return RESAMPLER_ACCEPTED;
+}
+
+uint32_t plain_draw(uint8_t *image, size_t image_length, uint8_t *marks, size_t marks_length, const uint8_t *queue,
+                    size_t queue_length, uint8_t *output, size_t output_length)
+{
+    struct plain_state s;
+    struct ring r;
+    size_t length = queue_length / 2, space = output_length / 2;
+    if (!get_ring(&r, marks, marks_length, queue_length) ||
+        !get_image(&s, image, image_length, RESAMPLER_IMAGE_BYTES))
+        return RESAMPLER_BAD_IMAGE;
+    if (queue_length % 2 != 0 || !is_buffer(output_length))
+        return RESAMPLER_BAD_BUFFER;
+    size_t first = smaller(r.held, length - r.front);
+    struct plain_fed fed = feed(&s, queue + 2 * r.front, first, output, space);
+    if (first < r.held && !fed.full) {
+        struct plain_fed more = feed(&s, queue, r.held - first, output + 2 * fed.written, space - fed.written);
+        fed = (struct plain_fed){fed.taken + more.taken, fed.written + more.written, fed.clips + more.clips, more.full};
+    }
+    put_image(image, &s, fed);
+    r = (struct ring){(uint32_t)wrapped(r.front + fed.taken, length), r.held - (uint32_t)fed.taken};
+    memcpy(marks, &r, sizeof r);
+    return RESAMPLER_ACCEPTED;
+}

@@ -1,5 +1,5 @@
-/* The converter in plain C, to compare speeds with: block feeding of 16-bit samples through one of four kernels, and
-   frame lines. For little-endian machines. */
+/* The converter in plain C, to compare speeds with: block feeding of 16-bit samples through one of four kernels, a ring
+   before it, and frame lines. For little-endian machines. */
 #ifndef PLAIN_H
 #define PLAIN_H
 
@@ -44,6 +44,13 @@ uint32_t plain_host_feed(uint8_t *image, size_t image_length, const uint8_t *inp
 /* And over lanes, as `resampler_feed_lanes`: one lane after another. */
 uint32_t plain_host_feed_lanes(uint8_t *image, size_t image_length, uint32_t lanes, const uint8_t *input,
                                size_t input_length, uint8_t *output, size_t output_length);
+
+/* A ring of samples before the converter, as `resampler_push` and `resampler_draw`: a push copies by memcpy, and a draw
+   feeds what is held where it lies, in one part or two. */
+uint32_t plain_push(uint8_t *marks, size_t marks_length, uint8_t *queue, size_t queue_length, const uint8_t *samples,
+                    size_t samples_length);
+uint32_t plain_draw(uint8_t *image, size_t image_length, uint8_t *marks, size_t marks_length, const uint8_t *queue,
+                    size_t queue_length, uint8_t *output, size_t output_length);
 
 /* D lines, as `resampler_write_data` and `resampler_read_data`, by tables of digits. */
 uint32_t plain_write_data(uint32_t sequence, const uint8_t *samples, size_t samples_length, uint8_t *line,

@@ -7,6 +7,9 @@
 
    Up to sixteen signals on one clock, called lanes, can have one image, of 288 bytes, and one feed.
 
+   A sampler that delivers bursts can have a queue before its converter, in a buffer of the host's. A push stores a
+   burst. A draw feeds the converter what the queue holds, and removes what was taken.
+
    On their way samples stand in frame lines, which are text: a K line has kernel, word and phase, a D line a number
    and up to 64 samples. Two calls write such lines, and two read them.
 
@@ -28,8 +31,8 @@
    ends.
 
    The library has no state of its own and allocates nothing. Several threads may call it at once, each on
-   images of its own, and with its own buffers to write to. What the calls do is proved; how arguments reach them is
-   the compilers' business, and the small functions at the end of this file are plain C.
+   images and queues of its own, and with its own buffers to write to. What the calls do is proved; how arguments
+   reach them is the compilers' business, and the small functions at the end of this file are plain C.
 
    The guarantee. Take any list of feeds and retunes on one image, lent whole, from an accepted start, refused
    calls included, where nothing else changes the image in between. Refusal 5 does not occur in it. Each accepted
@@ -39,6 +42,14 @@
    uses there, zeros before the first included; K is 16384, 16384, 8192 or 12288 by kernel. Of an image of lanes,
    with feeds of lanes and with retunes of its first 40 bytes, all this holds for each lane that no accepted feed
    left out.
+
+   The guarantee for a queue. Take any list of pushes, draws and retunes on one image, one marks and one queue buffer of
+   at most 16,384 samples, lent whole, from an accepted start and from marks that hold nothing and agree with the
+   buffer, as 8 zero bytes do; refused calls included, where nothing else changes the three in between. Refusal 5 does
+   not occur in it. The samples that the draws took, followed by those that are held, are the samples of the accepted
+   pushes: nothing is lost, and nothing comes twice. Where a push is not refused with 12, it is refused with 16 exactly
+   where the samples pushed less those drawn, and those offered, are together more than the buffer has. And the draws
+   and retunes stand to the paper's run as the feeds and retunes above do, over the samples drawn.
 
    A sensor turned round. Take two images that were started alike, are retuned alike and lent as much space, one fed the
    other's samples with the other sign; -32768 has none, so it is no sample of either. Every feed takes, writes and ends
@@ -91,8 +102,8 @@ extern "C" {
 #define RESAMPLER_WINDOW 4             /* samples in an image, of each lane */
 #define RESAMPLER_MOST_LANES 16
 
-/* The image. Its numbers have the low byte first. The counts and the end are those of the last accepted feed, 0
-   after a start; on entry to a call they may be anything. */
+/* The image. Its numbers have the low byte first. The counts and the end are those of the last accepted feed or draw,
+   0 after a start; on entry to a call they may be anything. */
 #define RESAMPLER_AT_KERNEL 0   /* 1 byte: 0 to 3 */
 #define RESAMPLER_AT_NEEDED 1   /* 1 byte: samples still needed before the next output, 0 to 4 */
 #define RESAMPLER_AT_ZEROS 2    /* 2 bytes: zero */
@@ -125,6 +136,22 @@ extern "C" {
 #define RESAMPLER_HUNGRY 0
 #define RESAMPLER_FULL 1
 
+/* A queue is a ring of samples in a buffer, and 8 bytes of marks. A queue buffer has half as many samples as bytes,
+   rounded down. Sample i of what is held, from 0 on, lies at place front + i of the buffer, modulo the number of its
+   samples. 8 zero bytes are an empty queue in a buffer of any length, so there is no call to start one; what the buffer
+   contains then does not matter. The numbers of the marks have the low byte first.
+
+   Marks agree with a buffer if held is at most the number of its samples, and front is below that number, or 0 in an
+   empty buffer. From marks that agree, every marks that come back agree.
+
+   Image, marks and queue buffer are all that there is of a converter with its queue. The host may store the three
+   between any two calls, and go on from them later. The contents of the queue buffer belong to the marks: they are the
+   samples that are held. */
+#define RESAMPLER_QUEUE_SAMPLES 16384 /* the most samples of a queue buffer; the fewest are 0 */
+#define RESAMPLER_MARKS_FRONT 0       /* 4 bytes: place of the oldest sample held; where none is, of the next */
+#define RESAMPLER_MARKS_HELD 4        /* 4 bytes: samples held */
+#define RESAMPLER_MARKS_BYTES 8
+
 /* Frame lines. A line is a letter, digits 0-9, A-F and byte 10:
        K, 1 digit kernel, 9 digits word, 8 digits phase
        D, 8 digits sequence number, 2 digits count, 4 digits for each sample in two's complement, 2 digits check
@@ -146,7 +173,7 @@ extern "C" {
 #define RESAMPLER_AT_START_WORD 8   /* 8 bytes: 1 to 2^34 */
 #define RESAMPLER_START_FIELDS_BYTES 16
 
-/* Refusals, as document 01 numbers them, and 13 to 15. Those from 6 to 11 and 15 are of lines that are read, and 14 is
+/* Refusals, as document 01 numbers them, and 13 to 16. Those from 6 to 11 and 15 are of lines that are read, and 14 is
    of lines that are written.
 
     1   kernel above 3
@@ -154,17 +181,19 @@ extern "C" {
     3   output rate 0
     4   word 0 or above 2^34, after rounding
     5   state with kernel above 3, word outside 1..2^34 or needed count above 4; image not 40 bytes, for a start
-        or feed of lanes not 288, or bytes 2, 3 not zero; `frame` not 8 bytes, for a K line not 16
+        or feed of lanes not 288, or bytes 2, 3 not zero; `frame` not 8 bytes, for a K line not 16; `marks` not 8
+        bytes, queue buffer above 16,384 samples, or marks that disagree with it
     6   no byte 10 in the first 270 bytes, or in those that were lent
     7   first letter not the one called for, or line empty
     8   another character than 0-9, A-F after the letter
     9   K: not 18 digits; D: under 12, count 0 or above 64, or not 12 + 4 times count
    10   check fails
    11   sample buffer shorter than the count
-   12   host sample buffer of odd length or above 65,536 bytes
+   12   host sample buffer of odd length or above 65,536 bytes; queue buffer of odd length
    13   lane count 0 or above 16; samples of input, or places of output, not a multiple of it
    14   no samples to write, or above 64; line buffer shorter than the line
    15   sequence number not the next
+   16   samples held and samples offered together more than the queue buffer has
 
    Where several apply a call returns the lowest, except that a retune tests 5 first, a read of a K line 1 and 4 last,
    and a read of a D line 15 before 11 and 12. Whatever the refusal, every buffer is left as it came. */
@@ -173,7 +202,7 @@ extern "C" {
 #define RESAMPLER_BAD_RATIO 2
 #define RESAMPLER_BAD_RATE 3
 #define RESAMPLER_BAD_WORD 4
-#define RESAMPLER_BAD_IMAGE 5 /* or `frame` of another length */
+#define RESAMPLER_BAD_IMAGE 5 /* or `frame` of another length, or marks that are not of the queue buffer */
 #define RESAMPLER_NO_LINE_END 6
 #define RESAMPLER_BAD_LETTER 7
 #define RESAMPLER_BAD_DIGIT 8
@@ -184,6 +213,7 @@ extern "C" {
 #define RESAMPLER_BAD_LANES 13
 #define RESAMPLER_BAD_WRITE 14
 #define RESAMPLER_BAD_SEQUENCE 15
+#define RESAMPLER_QUEUE_FULL 16
 
 /* Starts. The kernel is 0 to 3. The first output stands phase / 2^32 of a sample past the first sample; any
    phase will do. The setting is a word, a ratio of the rates (input / output), or the two rates in whole hertz:
@@ -256,6 +286,40 @@ uint32_t resampler_feed(uint8_t *image, size_t image_length, const uint8_t *inpu
 uint32_t resampler_feed_lanes(uint8_t *image, size_t image_length, uint32_t lanes, const uint8_t *input,
                               size_t input_length, uint8_t *output, size_t output_length);
 
+/* The queue. `marks` has 8 bytes, and `queue` is the buffer that samples wait in; every push and draw of one queue is
+   lent the same two. Marks and image do not lie in the queue buffer, and a burst is not pushed from it: as in every
+   call, the buffers are apart from each other. Both calls write the marks, so a push and a draw of one queue may not
+   run at once, in two threads or the one in an interrupt of the other.
+
+   An accepted push stores all its samples behind those that are held, round the end of the queue buffer to its start
+   where need be. It writes the places that it stores to, and no others; front stays, and held grows by the number of
+   samples. A push of nothing changes nothing, and a full queue accepts it too.
+
+   On 16 nothing was stored. The host draws, and pushes the same samples again, or a part of them: after a draw that
+   took t samples there is space for t more. A burst of more samples than the whole buffer never finds space.
+
+   An accepted draw leaves image and output as a feed of the samples held, oldest first, would leave them: outputs,
+   counts, clips and end are found where that feed has them. The samples taken leave the queue: held is less by their
+   number, and front moves on by it, modulo the number of samples in the buffer. It is not put back to 0 where nothing
+   is held any more. The queue buffer is not written. After FULL the samples that were not taken are still held, and the
+   host draws again with new space; after HUNGRY nothing is held. A draw where nothing is held is a feed of nothing, and
+   may write outputs that are due.
+
+   How many outputs a draw writes at most is said at the feed, with n for the samples held. Draws and feeds may take
+   turns on one image, as long as the samples come in the order that is wanted.
+
+   Refusals of a push, in this order: 5, if `marks` is not 8 bytes long, if the queue buffer has more than 16,384
+   samples, or if the marks disagree with it; 12, if the length of the queue buffer is odd, or that of the samples odd
+   or above 65,536; 16, if samples held and samples offered are together more than the queue buffer has. Refusals of a
+   draw: 5, for those reasons or for any reason of the image; 12, if the length of the queue buffer is odd, or that of
+   the output odd or above 65,536. The lengths of queue buffer, samples and output may be 0.
+
+   A library whose header has no RESAMPLER_MARKS_BYTES (before request U7) has neither call. */
+uint32_t resampler_push(uint8_t *marks, size_t marks_length, uint8_t *queue, size_t queue_length,
+                        const uint8_t *samples, size_t samples_length);
+uint32_t resampler_draw(uint8_t *image, size_t image_length, uint8_t *marks, size_t marks_length,
+                        const uint8_t *queue, size_t queue_length, uint8_t *output, size_t output_length);
+
 /* Writes of lines. An accepted write puts the line at the front of `line`, and bytes past it keep their contents. How
    long the line is follows from the arguments, by the names above. A line buffer has no largest length.
 
@@ -310,6 +374,8 @@ uint32_t resampler_read_start(const uint8_t *line, size_t line_length, uint8_t *
 #define resampler_start_lanes_ratio resampler_start_lanes_ratio
 #define resampler_start_lanes_rates resampler_start_lanes_rates
 #define resampler_feed_lanes resampler_feed_lanes
+#define resampler_push resampler_push
+#define resampler_draw resampler_draw
 #define resampler_write_data resampler_write_data
 #define resampler_write_start resampler_write_start
 #define resampler_read_data resampler_read_data
@@ -321,8 +387,8 @@ static inline uint32_t resampler_number(const uint8_t *at)
     return at[0] | (uint32_t)at[1] << 8 | (uint32_t)at[2] << 16 | (uint32_t)at[3] << 24;
 }
 
-/* What the last accepted feed did. Samples and outputs are counted, not bytes. Clips are the sum of both sides, high
-   and low. Of an image of lanes samples and outputs are those of each lane, and the clips are those of lane 0. */
+/* What the last accepted feed or draw did. Samples and outputs are counted, not bytes. Clips are the sum of both sides,
+   high and low. Of an image of lanes samples and outputs are those of each lane, and the clips are those of lane 0. */
 static inline uint32_t resampler_taken(const uint8_t *image) { return resampler_number(image + RESAMPLER_AT_TAKEN); }
 static inline uint32_t resampler_written(const uint8_t *image) { return resampler_number(image + RESAMPLER_AT_WRITTEN); }
 static inline uint32_t resampler_clips(const uint8_t *image) { return resampler_number(image + RESAMPLER_AT_CLIPS); }
@@ -347,6 +413,10 @@ static inline size_t resampler_lane_window(size_t lane)
     return lane == 0 ? RESAMPLER_AT_WINDOW
                      : RESAMPLER_AT_LANE_WINDOWS + (lane - 1) * RESAMPLER_WINDOW * RESAMPLER_SAMPLE_BYTES;
 }
+
+/* Where the oldest sample of a queue lies, and how many samples it holds. */
+static inline uint32_t resampler_front(const uint8_t *marks) { return resampler_number(marks + RESAMPLER_MARKS_FRONT); }
+static inline uint32_t resampler_held(const uint8_t *marks) { return resampler_number(marks + RESAMPLER_MARKS_HELD); }
 
 /* What a read of a D line left in `frame`, and where the part that follows the line begins. */
 static inline uint32_t resampler_sequence(const uint8_t *frame)

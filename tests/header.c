@@ -20,6 +20,8 @@ uint32_t resampler_start_lanes_word(uint8_t *, size_t, uint32_t, uint64_t, uint3
 uint32_t resampler_start_lanes_ratio(uint8_t *, size_t, uint32_t, double, uint32_t);
 uint32_t resampler_start_lanes_rates(uint8_t *, size_t, uint32_t, uint32_t, uint32_t, uint32_t);
 uint32_t resampler_feed_lanes(uint8_t *, size_t, uint32_t, const uint8_t *, size_t, uint8_t *, size_t);
+uint32_t resampler_push(uint8_t *, size_t, uint8_t *, size_t, const uint8_t *, size_t);
+uint32_t resampler_draw(uint8_t *, size_t, uint8_t *, size_t, const uint8_t *, size_t, uint8_t *, size_t);
 uint32_t resampler_write_data(uint32_t, const uint8_t *, size_t, uint8_t *, size_t);
 uint32_t resampler_write_start(uint32_t, uint64_t, uint32_t, uint8_t *, size_t);
 uint32_t resampler_read_data(const uint8_t *, size_t, uint8_t *, size_t, uint8_t *, size_t);
@@ -32,8 +34,9 @@ uint32_t resampler_read_start(const uint8_t *, size_t, uint8_t *, size_t);
 #if !defined resampler_start_word || !defined resampler_start_ratio || !defined resampler_start_rates || \
     !defined resampler_retune_word || !defined resampler_retune_ratio || !defined resampler_retune_rates || \
     !defined resampler_feed || !defined resampler_start_lanes_word || !defined resampler_start_lanes_ratio || \
-    !defined resampler_start_lanes_rates || !defined resampler_feed_lanes || !defined resampler_write_data || \
-    !defined resampler_write_start || !defined resampler_read_data || !defined resampler_read_start
+    !defined resampler_start_lanes_rates || !defined resampler_feed_lanes || !defined resampler_push || \
+    !defined resampler_draw || !defined resampler_write_data || !defined resampler_write_start || \
+    !defined resampler_read_data || !defined resampler_read_start
 #error "a call lacks its macro"
 #endif
 
@@ -42,6 +45,12 @@ uint32_t resampler_read_start(const uint8_t *, size_t, uint8_t *, size_t);
 #if RESAMPLER_LANES_BYTES != RESAMPLER_IMAGE_BYTES + 15 * 8 + 16 * (4 + 4) || RESAMPLER_MOST_LANES != 16 || \
     RESAMPLER_AT_LANE_HIGH != 160 || RESAMPLER_AT_LANE_LOW != 164 || RESAMPLER_LANE_CLIPS_BYTES != 8
 #error "another image of lanes"
+#endif
+
+/* The marks of a queue: front and held, 4 bytes each. */
+#if RESAMPLER_MARKS_BYTES != 8 || RESAMPLER_MARKS_FRONT != 0 || RESAMPLER_MARKS_HELD != 4 || \
+    RESAMPLER_QUEUE_SAMPLES != 16384 || RESAMPLER_QUEUE_FULL != 16
+#error "other marks of a queue"
 #endif
 
 /* The longest line is a D line with 64 samples. */
@@ -285,6 +294,137 @@ static void one_lane(void)
     }
 }
 
+static uint32_t draw_number(uint32_t *seed, size_t below)
+{
+    *seed = *seed * 1664525 + 1013904223;
+    return (*seed >> 8) % (uint32_t)below;
+}
+
+/* Whether marks have this front and this many samples held, byte by byte and by the small functions. */
+static int marks_are(const uint8_t *marks, size_t front, size_t held)
+{
+    return number(marks, 4) == front && number(marks + 4, 4) == held && resampler_front(marks) == front &&
+           resampler_held(marks) == held;
+}
+
+/* A queue of five samples, before the linear kernel at equal rates, which gives each sample once the next is there. The
+   second push goes round the end, and leaves the place that it does not need. The front is not put back where nothing
+   is held any more, and a full queue takes a push of nothing and no other. */
+static void queue(void)
+{
+    static const uint8_t first[] = {1, 0, 2, 0, 3, 0}, second[] = {4, 0, 5, 0, 6, 0, 7, 0};
+    static const uint8_t third[] = {8, 0, 9, 1, 9, 2};
+    static const uint8_t in_two_parts[] = {6, 0, 7, 0, 3, 0, 4, 0, 5, 0, 0xEE};
+    uint8_t image[RESAMPLER_IMAGE_BYTES], marks[RESAMPLER_MARKS_BYTES] = {0}, queue[11], output[20];
+    size_t n = sizeof image, eight = sizeof marks, ten = 10;
+    memset(queue, 0xEE, sizeof queue);
+    check("start before a queue", resampler_start_rates(image, n, RESAMPLER_LINEAR, 1, 1, 0) == 0);
+    check("first push", resampler_push(marks, eight, queue, ten, first, sizeof first) == 0 && marks_are(marks, 0, 3));
+    check("its places", memcmp(queue, first, sizeof first) == 0 && queue[6] == 0xEE && queue[10] == 0xEE);
+    check("draw of one output", resampler_draw(image, n, marks, eight, queue, ten, output, 2) == 0);
+    check("full draw", resampler_end(image) == RESAMPLER_FULL && resampler_taken(image) == 3);
+    check("empty, front not put back", marks_are(marks, 3, 0));
+    check("push round the end", resampler_push(marks, eight, queue, ten, second, sizeof second) == 0);
+    check("the end and the start", marks_are(marks, 3, 4) && memcmp(queue, in_two_parts, sizeof queue) == 0);
+    memset(output, 0xEE, sizeof output);
+    check("draw round the end", resampler_draw(image, n, marks, eight, queue, ten, output, sizeof output) == 0);
+    check("hungry draw", resampler_end(image) == RESAMPLER_HUNGRY && resampler_taken(image) == 4);
+    for (size_t i = 0; i < 5; i++)
+        check("output of a draw", resampler_sample(output, i) == (int)i + 2);
+    check("as many as are due", resampler_written(image) == 5 && output[10] == 0xEE);
+    check("front round the end", marks_are(marks, 2, 0) && memcmp(queue, in_two_parts, sizeof queue) == 0);
+    check("push of nothing", resampler_push(marks, eight, queue, ten, first, 0) == 0 && marks_are(marks, 2, 0));
+    check("draw of nothing", resampler_draw(image, n, marks, eight, queue, ten, output, sizeof output) == 0);
+    check("nothing drawn", resampler_taken(image) + resampler_written(image) == 0 && marks_are(marks, 2, 0));
+    check("push of three", resampler_push(marks, eight, queue, ten, third, sizeof third) == 0);
+    check("three more", resampler_push(marks, eight, queue, ten, third, sizeof third) == RESAMPLER_QUEUE_FULL);
+    check("two more", marks_are(marks, 2, 3) && resampler_push(marks, eight, queue, ten, first, 4) == 0);
+    check("one more", resampler_push(marks, eight, queue, ten, third, 2) == RESAMPLER_QUEUE_FULL);
+    check("nothing more", resampler_push(marks, eight, queue, ten, third, 0) == 0 && marks_are(marks, 2, 5));
+    check("front at 2", resampler_sample(queue, 2) == 8 && resampler_sample(queue, 0) == 1);
+}
+
+/* Outputs that are due, drawn through a queue buffer with no samples: a quarter of a sample a step gives four. */
+static void empty_queue(void)
+{
+    static const uint8_t in[] = {0, 0, 100, 0};
+    uint8_t image[RESAMPLER_IMAGE_BYTES], marks[RESAMPLER_MARKS_BYTES] = {0}, queue[2] = {0xEE, 0xEE}, output[20];
+    size_t n = sizeof image, eight = sizeof marks;
+    check("start of quarters", resampler_start_rates(image, n, RESAMPLER_LINEAR, 1, 4, 0) == 0);
+    check("feed of quarters", resampler_feed(image, n, in, sizeof in, output, 2) == 0);
+    check("outputs due", resampler_end(image) == RESAMPLER_FULL);
+    check("draw without samples", resampler_draw(image, n, marks, eight, queue, 0, output, sizeof output) == 0);
+    check("three quarters", resampler_taken(image) == 0 && resampler_written(image) == 3);
+    for (size_t i = 0; i < 3; i++)
+        check("a quarter", resampler_sample(output, i) == 25 * (int)i + 25);
+    check("push without samples", resampler_push(marks, eight, queue, 0, in, 0) == 0 && marks_are(marks, 0, 0));
+    check("one sample", resampler_push(marks, eight, queue, 0, in, 2) == RESAMPLER_QUEUE_FULL && queue[0] == 0xEE);
+}
+
+/* What a host stores of a converter with its queue. */
+enum { MOST_HELD = 64 };
+struct stored {
+    uint8_t image[RESAMPLER_IMAGE_BYTES], marks[RESAMPLER_MARKS_BYTES], queue[MOST_HELD * RESAMPLER_SAMPLE_BYTES];
+};
+
+/* Pushes of up to twice the length of a queue, draws with little space and retunes, beside a list of all samples pushed
+   and an image that is fed from it without a queue. What is held are the samples of the list that were not taken, from
+   the front on; the front is the number taken, modulo the length; places past the buffer are left. Before each call the
+   three buffers go to another place, as if they were stored and restored. */
+static void beside_a_list(size_t length, uint32_t kernel)
+{
+    enum { CALLS = 2000, PAIR = RESAMPLER_SAMPLE_BYTES, SPACE = 80, EIGHT = RESAMPLER_MARKS_BYTES };
+    static uint8_t list[CALLS * MOST_HELD * PAIR], burst[(2 * MOST_HELD + 1) * PAIR];
+    uint8_t other[RESAMPLER_IMAGE_BYTES], output[SPACE * PAIR], again[SPACE * PAIR];
+    struct stored places[2];
+    size_t n = sizeof other, bytes = length * PAIR, pushed = 0, taken = 0, refused = 0;
+    uint32_t seed = kernel + 1;
+    memset(places, 0xEE, sizeof places);
+    memset(places[0].marks, 0, EIGHT);
+    check("start with a queue", resampler_start_word(places[0].image, n, kernel, 0x9ABCDEF0, 0xFEDCBA98) == 0);
+    memcpy(other, places[0].image, n);
+    for (size_t call = 0; call < CALLS; call++) {
+        struct stored *here = &places[(call + 1) % 2], *before = &places[call % 2];
+        uint32_t what = draw_number(&seed, 20);
+        *here = *before;
+        memset(before, 0xEE, sizeof *before);
+        if (what < 10) {
+            size_t samples = draw_number(&seed, 2 * length + 2);
+            for (size_t i = 0; i < samples; i++)
+                resampler_put_sample(burst, i, (int16_t)((int)draw_number(&seed, 65536) - 32768));
+            uint32_t answer = resampler_push(here->marks, EIGHT, here->queue, bytes, burst, samples * PAIR);
+            if (pushed - taken + samples > length) {
+                check("push without space", answer == RESAMPLER_QUEUE_FULL);
+                refused++;
+            } else {
+                check("push with space", answer == RESAMPLER_ACCEPTED);
+                memcpy(list + pushed * PAIR, burst, samples * PAIR);
+                pushed += samples;
+            }
+        } else if (what < 19) {
+            size_t space = draw_number(&seed, SPACE + 1) * PAIR;
+            memset(output, 0xEE, sizeof output);
+            memset(again, 0xEE, sizeof again);
+            check("draw", resampler_draw(here->image, n, here->marks, EIGHT, here->queue, bytes, output, space) == 0);
+            check("feed", resampler_feed(other, n, list + taken * PAIR, (pushed - taken) * PAIR, again, space) == 0);
+            check("outputs of draw and feed", memcmp(output, again, sizeof output) == 0);
+            taken += resampler_taken(other);
+        } else {
+            double ratio = (1 + draw_number(&seed, 300)) / 100.0;
+            check("retune with a queue", resampler_retune_ratio(here->image, n, ratio) == 0);
+            check("retune", resampler_retune_ratio(other, n, ratio) == 0);
+        }
+        check("images of draw and feed", memcmp(here->image, other, n) == 0);
+        check("marks beside a list", marks_are(here->marks, length > 0 ? taken % length : 0, pushed - taken));
+        for (size_t i = taken; i < pushed; i++)
+            check("held", memcmp(here->queue + i % length * PAIR, list + i * PAIR, PAIR) == 0);
+        for (size_t i = bytes; i < sizeof here->queue; i++)
+            check("past the queue", here->queue[i] == 0xEE);
+    }
+    check("a hundred times round", taken > 100 * length || length == 0);
+    check("refused pushes", refused > CALLS / 10);
+}
+
 /* Lines of every count, one after another, with what the reads leave and what follows each; bytes past a line or past
    the samples of one keep what they held. The numbers rise by one, from 03FFFFFF on. The sample at i is 259 i - 7 in
    every line. */
@@ -366,6 +506,173 @@ static void lane_refusals(void)
     check("places of two lanes", resampler_feed_lanes(image, n, 2, in, 4, out, 6) == RESAMPLER_BAD_LANES);
     check("two lanes", resampler_feed_lanes(image, n, 2, in, 4, out, 8) == RESAMPLER_ACCEPTED);
     check("single feed", resampler_feed(image, n, in, 0, out, 0) == RESAMPLER_BAD_IMAGE);
+}
+
+static void put_marks(uint8_t *marks, uint32_t front, uint32_t held)
+{
+    for (size_t i = 0; i < 4; i++) {
+        marks[i] = (uint8_t)(front >> 8 * i);
+        marks[4 + i] = (uint8_t)(held >> 8 * i);
+    }
+}
+
+/* A push of so many bytes into a queue buffer of so many, with these marks, which are lent so long. A refused push has
+   to leave every byte, and an accepted one to store its samples and nothing else. */
+static uint32_t try_push(uint32_t front, uint32_t held, size_t marks_length, size_t queue_length, size_t samples_length)
+{
+    enum { BYTES = RESAMPLER_QUEUE_SAMPLES * RESAMPLER_SAMPLE_BYTES + 4, MARKS = RESAMPLER_MARKS_BYTES + 1 };
+    static uint8_t queue[BYTES], before[BYTES], samples[RESAMPLER_LARGEST_BUFFER + 3];
+    uint8_t marks[MARKS] = {0}, marks_before[MARKS];
+    size_t length = queue_length / 2, stored = samples_length / 2, changed = 0;
+    put_marks(marks, front, held);
+    memcpy(marks_before, marks, sizeof marks);
+    memset(queue, 0xEE, sizeof queue);
+    memset(before, 0xEE, sizeof before);
+    memset(samples, 0x11, sizeof samples);
+    uint32_t answer = resampler_push(marks, marks_length, queue, queue_length, samples, samples_length);
+    if (answer != 0) {
+        check("marks of a refused push", memcmp(marks, marks_before, sizeof marks) == 0);
+        check("queue of a refused push", memcmp(queue, before, sizeof queue) == 0);
+        return answer;
+    }
+    for (size_t i = 0; i < stored; i++)
+        check("place of a sample", resampler_sample(queue, (front + held + i) % length) == 0x1111);
+    for (size_t i = 0; i < BYTES; i++)
+        changed += queue[i] != 0xEE;
+    check("no other places", changed == 2 * stored);
+    check("marks of a push", marks_are(marks, front, held + stored));
+    return answer;
+}
+
+/* Whether a push is refused with 5, also where 12 and 16 apply: the queue buffer or the samples of odd length, too many
+   samples, and more than fit. */
+static int push_is_5(uint32_t front, uint32_t held, size_t marks_length, size_t queue_length)
+{
+    static const size_t samples[] = {0, 1, 2, RESAMPLER_LARGEST_BUFFER, RESAMPLER_LARGEST_BUFFER + 2};
+    int so = 1;
+    for (size_t i = 0; i < sizeof samples / sizeof *samples; i++)
+        so = so && try_push(front, held, marks_length, queue_length, samples[i]) == RESAMPLER_BAD_IMAGE &&
+             try_push(front, held, marks_length, queue_length + 1, samples[i]) == RESAMPLER_BAD_IMAGE;
+    return so;
+}
+
+/* Marks that are not below, or above, a length of three. */
+static const uint32_t too_far[] = {3, 4, 0x100, 0x10000, 0x1000000, 0x80000000, 0xFFFFFFFF};
+enum { TOO_FAR = sizeof too_far / sizeof *too_far };
+
+/* The refusals of a push by their names and in their order, and the limits on both sides. */
+static void push_refusals(void)
+{
+    const uint32_t most = RESAMPLER_QUEUE_SAMPLES, odd = RESAMPLER_BAD_BUFFER, full = RESAMPLER_QUEUE_FULL;
+    size_t all = 2 * most, largest = RESAMPLER_LARGEST_BUFFER;
+    check("marks of other lengths", push_is_5(0, 0, 7, 6) && push_is_5(0, 0, 9, 6) && push_is_5(0, 0, 0, 6));
+    check("16,384 samples", try_push(0, 0, 8, all, all) == 0 && try_push(most - 1, 1, 8, all, all - 2) == 0);
+    check("all held", try_push(5, most, 8, all, 0) == 0 && try_push(5, most, 8, all, 2) == full);
+    check("16,385 offered", try_push(0, 0, 8, all, all + 2) == full && try_push(0, 0, 8, all, largest) == full);
+    check("16,384 and a half", try_push(0, 0, 8, all + 1, 2) == odd);
+    check("16,385 samples", push_is_5(0, 0, 8, all + 2) && push_is_5(0, most + 1, 8, all + 2));
+    for (size_t i = 0; i < TOO_FAR; i++) {
+        check("front not below", push_is_5(too_far[i], 0, 8, 6) && push_is_5(too_far[i], 3, 8, 6));
+        check("held above", too_far[i] == 3 || (push_is_5(0, too_far[i], 8, 6) && push_is_5(2, too_far[i], 8, 6)));
+    }
+    for (uint32_t front = 0; front < 3; front++)
+        for (uint32_t held = 0; held <= 3; held++)
+            for (uint32_t offered = 0; offered <= 6; offered++) {
+                check("three samples", try_push(front, held, 8, 6, 2 * offered) == (held + offered > 3 ? full : 0));
+                check("odd queue", try_push(front, held, 8, 7, 2 * offered) == odd);
+                check("odd samples", try_push(front, held, 8, 6, 2 * offered + 1) == odd);
+            }
+    check("too many samples", try_push(0, 3, 8, 6, largest + 2) == odd && try_push(0, 3, 8, 6, largest) == full);
+    check("no samples", try_push(0, 0, 8, 0, 0) == 0 && try_push(0, 0, 8, 0, 2) == full);
+    check("front and held of no samples", push_is_5(1, 0, 8, 0) && push_is_5(0, 1, 8, 0));
+    check("half a sample", try_push(0, 0, 8, 1, 0) == odd && try_push(0, 0, 8, 1, 2) == odd);
+}
+
+/* A draw from a queue buffer of so many bytes, with an image that is lent so long. A refused one has to leave every
+   byte, and no draw writes the queue buffer. */
+static uint32_t try_draw(const uint8_t *started, size_t image_length, uint32_t front, uint32_t held,
+                         size_t marks_length, size_t queue_length, size_t output_length)
+{
+    enum { BYTES = RESAMPLER_QUEUE_SAMPLES * RESAMPLER_SAMPLE_BYTES + 4, MARKS = RESAMPLER_MARKS_BYTES + 1 };
+    static uint8_t queue[BYTES], before[BYTES], output[RESAMPLER_LARGEST_BUFFER + 3];
+    uint8_t image[RESAMPLER_LANES_BYTES] = {0}, image_before[RESAMPLER_LANES_BYTES];
+    uint8_t marks[MARKS] = {0}, marks_before[MARKS];
+    size_t changed = 0;
+    put_marks(marks, front, held);
+    memcpy(image, started, RESAMPLER_IMAGE_BYTES);
+    memcpy(image_before, image, sizeof image);
+    memcpy(marks_before, marks, sizeof marks);
+    memset(queue, 0x11, sizeof queue);
+    memset(before, 0x11, sizeof before);
+    memset(output, 0xEE, sizeof output);
+    uint32_t answer =
+        resampler_draw(image, image_length, marks, marks_length, queue, queue_length, output, output_length);
+    check("queue of a draw", memcmp(queue, before, sizeof queue) == 0);
+    for (size_t i = 0; i < sizeof output; i++)
+        changed += output[i] != 0xEE;
+    if (answer != 0) {
+        check("image of a refused draw", memcmp(image, image_before, sizeof image) == 0);
+        check("marks of a refused draw", memcmp(marks, marks_before, sizeof marks) == 0);
+        check("output of a refused draw", changed == 0);
+    } else {
+        size_t taken = resampler_taken(image), length = queue_length / 2;
+        check("marks of a draw", marks_are(marks, length > 0 ? (front + taken) % length : 0, held - taken));
+        check("output of a draw", changed == 2 * resampler_written(image));
+    }
+    return answer;
+}
+
+/* Whether a draw is refused with 5, also where 12 applies: the queue buffer or the output of odd length, and too large
+   an output. */
+static int draw_is_5(const uint8_t *image, size_t image_length, uint32_t front, uint32_t held, size_t marks_length,
+                     size_t queue_length)
+{
+    static const size_t outputs[] = {0, 1, 2, RESAMPLER_LARGEST_BUFFER + 2};
+    int so = 1;
+    for (size_t i = 0; i < 2 * (sizeof outputs / sizeof *outputs); i++)
+        so = so && try_draw(image, image_length, front, held, marks_length, queue_length + i % 2, outputs[i / 2]) ==
+                       RESAMPLER_BAD_IMAGE;
+    return so;
+}
+
+/* The refusals of a draw by their names and in their order, and the limits on both sides. */
+static void draw_refusals(void)
+{
+    /* places of an image, and bytes that are not right there; the word is 1 */
+    static const uint8_t spoilt[][2] = {{RESAMPLER_AT_KERNEL, 4},   {RESAMPLER_AT_NEEDED, 5},
+                                        {RESAMPLER_AT_ZEROS, 1},    {RESAMPLER_AT_ZEROS + 1, 1},
+                                        {RESAMPLER_AT_WORD, 0},     {RESAMPLER_AT_WORD + 4, 4},
+                                        {RESAMPLER_AT_WORD + 7, 1}};
+    const uint32_t most = RESAMPLER_QUEUE_SAMPLES, odd = RESAMPLER_BAD_BUFFER;
+    uint8_t image[RESAMPLER_IMAGE_BYTES], other[RESAMPLER_IMAGE_BYTES];
+    size_t n = sizeof image, all = 2 * most, largest = RESAMPLER_LARGEST_BUFFER;
+    check("start to draw", resampler_start_word(image, n, RESAMPLER_CUBIC, 1, 0) == 0);
+    check("marks of other lengths", draw_is_5(image, n, 0, 0, 7, 6) && draw_is_5(image, n, 0, 0, 9, 6));
+    check("image of other lengths", draw_is_5(image, n - 1, 0, 0, 8, 6) && draw_is_5(image, n + 1, 0, 0, 8, 6));
+    check("image of lanes", draw_is_5(image, RESAMPLER_LANES_BYTES, 0, 0, 8, 6));
+    for (size_t i = 0; i < sizeof spoilt / sizeof *spoilt; i++) {
+        memcpy(other, image, n);
+        other[spoilt[i][0]] = spoilt[i][1];
+        check("spoilt image", draw_is_5(other, n, 0, 0, 8, 6) && draw_is_5(other, n, 2, 3, 8, 6));
+    }
+    for (size_t i = 0; i < TOO_FAR; i++) {
+        check("front not below", draw_is_5(image, n, too_far[i], 0, 8, 6) && draw_is_5(image, n, too_far[i], 3, 8, 6));
+        check("held above", too_far[i] == 3 || draw_is_5(image, n, 0, too_far[i], 8, 6));
+    }
+    check("16,384 samples", try_draw(image, n, most - 1, most, 8, all, largest) == 0);
+    check("16,384 and a half", try_draw(image, n, 0, 0, 8, all + 1, 2) == odd);
+    check("16,385 samples", draw_is_5(image, n, 0, 0, 8, all + 2));
+    for (uint32_t front = 0; front < 3; front++)
+        for (uint32_t held = 0; held <= 3; held++) {
+            check("three samples", try_draw(image, n, front, held, 8, 6, 20) == 0);
+            check("odd queue", try_draw(image, n, front, held, 8, 7, 20) == odd);
+            check("odd output", try_draw(image, n, front, held, 8, 6, 21) == odd);
+        }
+    check("largest output", try_draw(image, n, 2, 3, 8, 6, largest) == 0);
+    check("too large an output", try_draw(image, n, 2, 3, 8, 6, largest + 2) == odd);
+    check("no samples", try_draw(image, n, 0, 0, 8, 0, 20) == 0 && try_draw(image, n, 0, 0, 8, 0, 0) == 0);
+    check("front and held of no samples", draw_is_5(image, n, 1, 0, 8, 0) && draw_is_5(image, n, 0, 1, 8, 0));
+    check("half a sample", try_draw(image, n, 0, 0, 8, 1, 20) == odd);
 }
 
 /* A read of so many bytes that begin with a text, into buffers of these lengths; zeros follow the text. No last number
@@ -484,6 +791,7 @@ static void kernels(void)
 
 int main(void)
 {
+    static const size_t lengths[] = {0, 1, 2, 3, 7, 23, MOST_HELD};
     samples();
     fields();
     lanes();
@@ -492,9 +800,16 @@ int main(void)
     upward();
     turned();
     one_lane();
+    queue();
+    empty_queue();
+    for (size_t i = 0; i < sizeof lengths / sizeof *lengths; i++)
+        for (uint32_t kernel = RESAMPLER_LINEAR; kernel <= RESAMPLER_CUBIC; kernel++)
+            beside_a_list(lengths[i], kernel);
     lines();
     refusals();
     lane_refusals();
+    push_refusals();
+    draw_refusals();
     line_refusals();
     order();
     kernels();

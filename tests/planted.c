@@ -1,6 +1,7 @@
-/* A library with a mistake, which tests/drivers links in the place of the feeds, and of the calls for D lines, to see
-   whether the drivers tell it. The mistake is named by the variable PLANTED. It is made in the third accepted feed that
-   writes an output; a mistake of halves, lanes or lines in the first call in which it shows. */
+/* A library with a mistake, which tests/drivers links in the place of the feeds, and of the calls for D lines and for
+   queues, to see whether the drivers tell it. The mistake is named by the variable PLANTED. It is made in the third
+   accepted feed that writes an output; a mistake of halves, lanes, lines or queues in the first call in which it
+   shows. */
 #include "resampler.h"
 
 #include <stdlib.h>
@@ -14,6 +15,10 @@ uint32_t __real_resampler_write_data(uint32_t, const uint8_t *, size_t, uint8_t 
 uint32_t __wrap_resampler_write_data(uint32_t, const uint8_t *, size_t, uint8_t *, size_t);
 uint32_t __real_resampler_read_data(const uint8_t *, size_t, uint8_t *, size_t, uint8_t *, size_t);
 uint32_t __wrap_resampler_read_data(const uint8_t *, size_t, uint8_t *, size_t, uint8_t *, size_t);
+uint32_t __real_resampler_push(uint8_t *, size_t, uint8_t *, size_t, const uint8_t *, size_t);
+uint32_t __wrap_resampler_push(uint8_t *, size_t, uint8_t *, size_t, const uint8_t *, size_t);
+uint32_t __real_resampler_draw(uint8_t *, size_t, uint8_t *, size_t, const uint8_t *, size_t, uint8_t *, size_t);
+uint32_t __wrap_resampler_draw(uint8_t *, size_t, uint8_t *, size_t, const uint8_t *, size_t, uint8_t *, size_t);
 
 static int planted(const char *name)
 {
@@ -189,6 +194,125 @@ uint32_t __wrap_resampler_read_data(const uint8_t *line, size_t line_length, uin
         result = __real_resampler_read_data(line, line_length, any, sizeof any, samples, samples_length);
         if (result == 0)
             memcpy(frame, any, sizeof any);
+    }
+    return result;
+}
+
+/* A queue as a call finds it; of marks of another length all is 0. */
+struct queue {
+    size_t front, held, length;
+};
+
+static struct queue queue_of(const uint8_t *marks, size_t marks_length, size_t queue_length)
+{
+    struct queue queue = {0, 0, queue_length / RESAMPLER_SAMPLE_BYTES};
+    if (marks_length == RESAMPLER_MARKS_BYTES) {
+        queue.front = resampler_number(marks + RESAMPLER_MARKS_FRONT);
+        queue.held = resampler_number(marks + RESAMPLER_MARKS_HELD);
+    }
+    return queue;
+}
+
+static void put_marks(uint8_t *marks, size_t front, size_t held)
+{
+    put_number(marks + RESAMPLER_MARKS_FRONT, (uint32_t)front);
+    put_number(marks + RESAMPLER_MARKS_HELD, (uint32_t)held);
+}
+
+/* Mistakes in the order of a push that is refused with 5: 16 before it, and 12; and one that is refused with 16 and
+   counts. */
+static uint32_t mistake_refusal(uint8_t *marks, struct queue before, size_t offered, int odd, uint32_t result)
+{
+    if (result == RESAMPLER_BAD_IMAGE && planted("queue 16 first") && before.held + offered > before.length)
+        return RESAMPLER_QUEUE_FULL;
+    if (result == RESAMPLER_BAD_IMAGE && planted("queue 12 first") && odd)
+        return RESAMPLER_BAD_BUFFER;
+    if (result == RESAMPLER_QUEUE_FULL && planted("queue refused"))
+        put_marks(marks, before.front, before.held + offered);
+    return result;
+}
+
+uint32_t __wrap_resampler_push(uint8_t *marks, size_t marks_length, uint8_t *queue, size_t queue_length,
+                               const uint8_t *samples, size_t samples_length)
+{
+    static uint8_t stored[2 * RESAMPLER_LARGEST_BUFFER];
+    static int made;
+    size_t kept = queue_length < sizeof stored ? queue_length : sizeof stored;
+    size_t offered = samples_length / RESAMPLER_SAMPLE_BYTES;
+    struct queue before = queue_of(marks, marks_length, queue_length);
+    memcpy(stored, queue, kept);
+    uint32_t result = __real_resampler_push(marks, marks_length, queue, queue_length, samples, samples_length);
+    size_t after = before.held + offered, end = before.front + before.held;
+    if (made)
+        return result;
+    if (result != 0) {
+        int odd = queue_length % 2 == 1 || samples_length % 2 == 1;
+        uint32_t wrong = mistake_refusal(marks, before, offered, odd, result);
+        made = wrong != result || (planted("queue refused") && result == RESAMPLER_QUEUE_FULL);
+        return wrong;
+    }
+    if (planted("queue fits") && offered > 0 && after == before.length) { /* refused, though it just fits */
+        made = 1;
+        memcpy(queue, stored, kept);
+        put_marks(marks, before.front, before.held);
+        return RESAMPLER_QUEUE_FULL;
+    }
+    if (planted("queue end") && end < before.length && end + offered > before.length) { /* does not go round it */
+        made = 1;
+        memcpy(queue, stored, (end + offered - before.length) * RESAMPLER_SAMPLE_BYTES);
+    }
+    if (planted("queue exchanged") && before.front != after) {
+        made = 1;
+        put_marks(marks, after, before.front);
+    }
+    return result;
+}
+
+/* The clips of a draw of the part up to the buffer's end alone. */
+static uint32_t clips_of_first(uint8_t *image, struct queue before, const uint8_t *queue, size_t output_length)
+{
+    static uint8_t output[RESAMPLER_LARGEST_BUFFER];
+    size_t first = (before.length - before.front) * RESAMPLER_SAMPLE_BYTES;
+    __real_resampler_feed(image, RESAMPLER_IMAGE_BYTES, queue + before.front * RESAMPLER_SAMPLE_BYTES, first, output,
+                          output_length);
+    return resampler_clips(image);
+}
+
+uint32_t __wrap_resampler_draw(uint8_t *image, size_t image_length, uint8_t *marks, size_t marks_length,
+                               const uint8_t *queue, size_t queue_length, uint8_t *output, size_t output_length)
+{
+    static int made;
+    uint8_t fed[RESAMPLER_IMAGE_BYTES];
+    struct queue before = queue_of(marks, marks_length, queue_length);
+    int parts = before.front < before.length && before.held <= before.length &&
+                before.front + before.held > before.length;
+    int first_alone = planted("queue part") && parts;
+    memcpy(fed, image, image_length < sizeof fed ? image_length : sizeof fed);
+    if (first_alone)
+        put_marks(marks, before.front, before.length - before.front);
+    uint32_t result = __real_resampler_draw(image, image_length, marks, marks_length, queue, queue_length, output,
+                                            output_length);
+    size_t left = result == 0 ? before.held - resampler_taken(image) : before.held;
+    if (first_alone)
+        put_marks(marks, resampler_number(marks + RESAMPLER_MARKS_FRONT), left);
+    if (result != 0 || made)
+        return result;
+    if (planted("queue kept") && left < before.held) { /* what it took */
+        made = 1;
+        put_marks(marks, before.front, before.held);
+    }
+    if (planted("queue front") && left == 0) { /* put back, where the queue is empty */
+        made = resampler_number(marks + RESAMPLER_MARKS_FRONT) != 0;
+        put_marks(marks, 0, 0);
+    }
+    if (planted("queue clips") && parts) { /* those of the second part are not added */
+        uint32_t clips = clips_of_first(fed, before, queue, output_length);
+        made = clips != resampler_clips(image);
+        put_number(image + RESAMPLER_AT_CLIPS, clips);
+    }
+    if (planted("queue cleared") && left < before.held) { /* the place of the first sample that it took */
+        made = 1;
+        resampler_put_sample((uint8_t *)(uintptr_t)queue, before.front, ~resampler_sample(queue, before.front));
     }
     return result;
 }

@@ -4,6 +4,7 @@ use crate::frame_image;
 use crate::host::{self, Answer, Call, Number, Role};
 use crate::image::{self, Field};
 use crate::lane_image;
+use crate::marks_image;
 use std::collections::BTreeMap;
 
 const WIDTH: usize = 108;
@@ -71,6 +72,7 @@ const LAYOUTS: &[Layout] = &[
     ("image", lane_image::LENGTH, lane_image::fields),
     ("frame", frame_image::DATA, frame_image::data_fields),
     ("frame", frame_image::START, frame_image::start_fields),
+    ("marks", marks_image::LENGTH, marks_image::fields),
 ];
 
 /// The fields of a buffer that has some.

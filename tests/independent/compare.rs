@@ -1,10 +1,12 @@
 //! The comparison of a library with the implementation and with the paper's run: on frame lines, then
-//! over random chains of calls on one converter, then on lanes, then with turned samples.
+//! on queues, then over random chains of calls on one converter, then on lanes, then with turned
+//! samples.
 
 use crate::calls::{self, Left};
 use crate::clips::Shown;
 use crate::compare_lanes::{Counts, LANES};
 use crate::compare_lines;
+use crate::compare_queue;
 use crate::generate::{self, Start};
 use crate::halves;
 use crate::host::{self, Answer, Call, Row};
@@ -41,6 +43,9 @@ pub fn run(amount: &Amount) -> Result<(), String> {
         counts: Counts::default(),
     };
     compare_lines::run(&mut comparison, amount.calls / 2)?;
+    comparison.random = Random(amount.seed);
+    comparison.tally = Tally::over("queue calls", compare_queue::has);
+    compare_queue::run(&mut comparison, amount.calls)?;
     comparison.random = Random(amount.seed);
     comparison.tally = Tally::over("calls", ALONE.has);
     comparison.halves()?;
@@ -92,7 +97,7 @@ pub struct Kind {
 }
 
 const ALONE: Kind = Kind {
-    has: |row| !(LANES.has)(row) && !compare_lines::has(row),
+    has: |row| !(LANES.has)(row) && !compare_lines::has(row) && !compare_queue::is_queue(row),
     start: "start",
     retune: "retune",
     length: image::LENGTH,
@@ -262,8 +267,15 @@ impl Comparison {
         (self.kind.also)(self, call, &answer)
     }
 
-    /// Makes a call on both sides and compares what they answer and leave.
+    /// Makes a call on both sides and compares what they answer and leave; counts it.
     pub fn answer(&mut self, call: &Call) -> Result<Answer, String> {
+        let answer = self.agree(call)?;
+        self.tally.count(call, &answer);
+        Ok(answer)
+    }
+
+    /// The same without counting it.
+    pub fn agree(&mut self, call: &Call) -> Result<Answer, String> {
         let expected = host::answer(call);
         let answer = self.library.answer(call).map_err(|what| described(&what, call, &expected))?;
         if answer != expected {
@@ -272,7 +284,6 @@ impl Comparison {
             let told = described(&what, call, &expected);
             return Err(format!("{told}the library:\n{found}{what}"));
         }
-        self.tally.count(call, &answer);
         Ok(answer)
     }
 }

@@ -1,5 +1,5 @@
 //! The cases that the programs `check_values` and `check_runs` draw, number by number as they do:
-//! settings, phases, samples and states.
+//! settings, phases, samples and states. `check_queue` draws its numbers in the same way.
 
 use crate::settings::{Setting, LARGEST_WORD};
 use crate::state::State;

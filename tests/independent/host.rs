@@ -7,6 +7,8 @@ use crate::image;
 use crate::lane_image;
 use crate::lanes;
 use crate::lines;
+use crate::marks_image;
+use crate::queue;
 use crate::settings::Setting;
 use crate::state;
 
@@ -59,6 +61,9 @@ const FEED: &[(&str, Role)] = &[("image", Kept), ("input", Read), ("output", Wri
 const WRITE_DATA: &[(&str, Role)] = &[("samples", Read), ("line", Written)];
 const READ_DATA: &[(&str, Role)] = &[("line", Read), ("frame", Kept), ("samples", Written)];
 const READ_START: &[(&str, Role)] = &[("line", Read), ("frame", Kept)];
+const PUSH: &[(&str, Role)] = &[("marks", Kept), ("queue", Kept), ("samples", Read)];
+const DRAW: &[(&str, Role)] =
+    &[("image", Kept), ("marks", Kept), ("queue", Read), ("output", Written)];
 
 /// A row: name, numbers, buffers, the answers to meet, what is accepted; and the call in C, each
 /// argument with its type, where n[i] is a number and b[i] a buffer.
@@ -149,11 +154,18 @@ rows! { |n, b|
     read_start, &[], READ_START, &[0, 1, 4, 5, 6, 7, 8, 9], start_read,
         resampler_read_start(b[0].at => *const u8, b[0].length => usize, b[1].at => *mut u8,
             b[1].length => usize);
+    push, &[], PUSH, &[0, 5, 12, 16], pushed,
+        resampler_push(b[0].at => *mut u8, b[0].length => usize, b[1].at => *mut u8,
+            b[1].length => usize, b[2].at => *const u8, b[2].length => usize);
+    draw, &[], DRAW, &[0, 5, 12], drawn,
+        resampler_draw(b[0].at => *mut u8, b[0].length => usize, b[1].at => *mut u8,
+            b[1].length => usize, b[2].at => *const u8, b[2].length => usize, b[3].at => *mut u8,
+            b[3].length => usize);
 }
 
 /// Whether `last` may stand for a buffer: it is kept by the host, or has what another call wrote.
 pub fn may_be_last(name: &str, role: Role) -> bool {
-    let written = |row: &Row| row.buffers.contains(&(name, Written));
+    let written = |row: &Row| row.buffers.iter().any(|of| of.0 == name && of.1 != Read);
     role == Kept || role == Read && ROWS.iter().any(written)
 }
 
@@ -185,6 +197,14 @@ pub fn read_data(line: Vec<u8>, frame: Vec<u8>, samples: Vec<u8>) -> Call {
 
 pub fn read_start(line: Vec<u8>, frame: Vec<u8>) -> Call {
     call("read_start", Vec::new(), vec![line, frame])
+}
+
+pub fn push(marks: Vec<u8>, queue: Vec<u8>, samples: Vec<u8>) -> Call {
+    call("push", Vec::new(), vec![marks, queue, samples])
+}
+
+pub fn draw(image: Vec<u8>, marks: Vec<u8>, queue: Vec<u8>, output: Vec<u8>) -> Call {
+    call("draw", Vec::new(), vec![image, marks, queue, output])
 }
 
 /// A start by the form of the setting; the name is "start" or "start_lanes".
@@ -352,6 +372,43 @@ fn check_frame(frame: &[u8], length: usize) -> Result<(), u32> {
     match frame.len() == length {
         true => Ok(()),
         false => Err(5),
+    }
+}
+
+/// Refusals 5, 12 and 16. 5 is of the marks and of the buffer, which "has half as many samples as
+/// bytes, rounded down"; 12 of "queue or samples of odd length, samples above 65,536 bytes".
+fn pushed(call: &Call) -> Result<Vec<Vec<u8>>, u32> {
+    let [marks, queue, offered] = &call.buffers[..] else { panic!("a push has three buffers") };
+    let before = marks_image::decode(marks)?;
+    queue::check(queue.len() / 2, before)?;
+    check_pairs(queue)?;
+    check_samples(offered)?;
+    let mut places = samples(queue);
+    let after = queue::push(&mut places, before, &samples(offered))?;
+    Ok(vec![marks_image::encode(after), bytes(&places), offered.clone()])
+}
+
+/// "Draw: 5 (those, and any reason of the image), 12 (queue of odd length, output odd or above 65,536
+/// bytes)"; accepted, it "writes the marks and the whole image anew".
+fn drawn(call: &Call) -> Result<Vec<Vec<u8>>, u32> {
+    let [image, marks, queue, output] = &call.buffers[..] else {
+        panic!("a draw has four buffers")
+    };
+    let before = marks_image::decode(marks)?;
+    queue::check(queue.len() / 2, before)?;
+    let state = image::decode(image)?;
+    check_pairs(queue)?;
+    check_samples(output)?;
+    let mut places = samples(output);
+    let (after, fed) = queue::draw(&samples(queue), before, state, &mut places)?;
+    Ok(vec![image::encode(&fed), marks_image::encode(after), queue.clone(), bytes(&places)])
+}
+
+/// The part of refusal 12 that is of a queue.
+fn check_pairs(queue: &[u8]) -> Result<(), u32> {
+    match queue.len() % 2 {
+        0 => Ok(()),
+        _ => Err(12),
     }
 }
 

@@ -13,12 +13,16 @@ mod compare;
 mod compare_lanes;
 #[cfg(library)]
 mod compare_lines;
+#[cfg(library)]
+mod compare_queue;
 mod draw;
 mod frame_image;
 mod frames;
 mod generate;
 #[cfg(library)]
 mod generate_lines;
+#[cfg(library)]
+mod generate_queue;
 mod halves;
 mod host;
 mod image;
@@ -31,14 +35,19 @@ mod lanes;
 mod library;
 mod lines;
 mod listings;
+mod marks_image;
 mod oscillator;
 mod paper;
 mod processes;
 mod program;
+mod queue;
+mod queue_paper;
+mod queue_runs;
 mod random;
 mod runs;
 mod settings;
 mod settled;
+mod settled_queue;
 mod sheets;
 mod state;
 #[cfg(library)]
@@ -62,6 +71,7 @@ const USAGE: &str = "usage:
   run FILE              prints a run on paper, as those of vectors/paper, with its outputs
   values                what the program check_values must write
   runs                  what the program check_runs must write
+  queue                 what the program check_queue must write
   output KERNEL REGISTER SAMPLE SAMPLE SAMPLE SAMPLE
                         one output, and high, low or neither; the register in
                         hexadecimal";
@@ -93,6 +103,7 @@ fn command(words: &[&str]) -> Result<(), String> {
         ["vectors", folder, "--check"] => vectors::check(folder),
         ["values"] => values::lines().map(|text| print!("{text}")),
         ["runs"] => runs::lines().map(|text| print!("{text}")),
+        ["queue"] => queue_runs::lines().map(|text| print!("{text}")),
         ["run", path] => run(path),
         ["output", case @ ..] => values::one(case).map(|text| print!("{text}")),
         _ => Err(USAGE.to_string()),

@@ -32,11 +32,7 @@ fn line(number: usize) -> Result<String, String> {
         };
         done.map_err(|what| format!("{name}, list {list}: {what}"))?;
     }
-    let Tally { hash, calls, taken, written, clips: Clips { high, low }, refused } = group.tally;
-    Ok(format!(
-        "{name}: {calls} calls, hash {hash}, taken {taken}, written {written}, high {high}, \
-         low {low}, refused {refused}\n"
-    ))
+    Ok(format!("{name}: {}\n", group.tally.totals()))
 }
 
 /// The calls of a group: a hash of what they answered, and totals.
@@ -51,13 +47,13 @@ pub struct Tally {
 }
 
 impl Tally {
-    fn mix(&mut self, numbers: &[u64]) {
+    pub fn mix(&mut self, numbers: &[u64]) {
         for number in numbers {
             self.hash = (self.hash * 65599 + number) % (1 << 47);
         }
     }
 
-    fn mix_samples(&mut self, samples: &[i16]) {
+    pub fn mix_samples(&mut self, samples: &[i16]) {
         for &sample in samples {
             self.mix(&[sample as u16 as u64]);
         }
@@ -69,6 +65,11 @@ impl Tally {
         self.mix(&[kernel.into(), needed.into(), register.into(), word % (1 << 32), word >> 32]);
         self.mix_samples(&window);
         self.mix_samples(others.as_flattened());
+        self.called(refusal);
+    }
+
+    /// A call that returned a refusal or 0, after what else it returned.
+    pub fn called(&mut self, refusal: u32) {
         self.mix(&[refusal.into()]);
         self.calls += 1;
         self.refused += (refusal != 0) as usize;
@@ -86,6 +87,15 @@ impl Tally {
         self.mix_samples(buffer);
         self.taken += fed.taken;
         self.written += fed.written;
+    }
+
+    /// The hash and the totals in words.
+    pub fn totals(&self) -> String {
+        let Tally { hash, calls, taken, written, clips: Clips { high, low }, refused } = self;
+        format!(
+            "{calls} calls, hash {hash}, taken {taken}, written {written}, high {high}, \
+             low {low}, refused {refused}"
+        )
     }
 }
 

@@ -1,5 +1,5 @@
 //! The settled examples of document 01, starred or not, the printed examples of the program, and
-//! what requests U1 to U6 settle, run on the implementation before every command.
+//! what requests U1 to U7 settle, run on the implementation before every command.
 
 use crate::clips::{Clips, Side, Side::*};
 use crate::frame_image;
@@ -15,6 +15,7 @@ use crate::paper::Paper;
 use crate::program;
 use crate::random::Random;
 use crate::settings::{self, Setting};
+use crate::settled_queue;
 use crate::state::{self, End, Fed};
 use crate::turned_lists;
 use crate::values;
@@ -39,6 +40,7 @@ pub fn run() -> Result<usize, String> {
     examples.extend(sides());
     examples.extend(counts());
     examples.extend(evens());
+    examples.extend(settled_queue::examples());
     examples.extend(facts());
     if let Some((name, _)) = examples.iter().find(|(_, holds)| !holds) {
         return Err(format!("settled example does not hold: {name}"));
@@ -47,7 +49,7 @@ pub fn run() -> Result<usize, String> {
     Ok(examples.len())
 }
 
-type Example = (&'static str, bool);
+pub type Example = (&'static str, bool);
 
 /// The outputs of one feed after a start, with room for all, from the state over samples, from the
 /// host calls and from the paper, which must agree. "Output places past those written keep their

@@ -15,7 +15,7 @@ fn folders(root: &Path) -> Result<[Folder; 3], String> {
     let mut places = cases::Places::new();
     let case = |file: &str, text: &str| cases::anew(file, text, &mut places);
     Ok([
-        made(&root.join("host"), "calls", (6523, "calls"), |_, text| sheets::anew(text))?,
+        made(&root.join("host"), "calls", (7780, "calls"), |_, text| sheets::anew(text))?,
         made(&root.join("program"), "cases", (280, "cases"), case)?,
         made(&root.join("paper"), "run", (1597, "outputs"), |_, text| listings::anew(text))?,
     ])

@@ -35,6 +35,7 @@
 #define OF_LANES (CLIPS + 16 * 8) /* bytes of an image of lanes, which begins with an image */
 #define OF_DATA 8                 /* bytes of what is read of a D line */
 #define OF_START 16               /* bytes of what is read of a K line */
+#define OF_MARKS 8                /* bytes of the marks of a queue */
 
 static const char usage[] =
     "usage: replay [OPTION...] FILE...\n"
@@ -122,7 +123,8 @@ static const struct field fields[] = {
     LANE(11), LANE(12), LANE(13), LANE(14), LANE(15),
     {"frame", OF_DATA, "sequence", 0, 4, 1, 0, 0}, {"frame", OF_DATA, "count", 4, 4, 1, 0, 0},
     {"frame", OF_START, "kernel", 0, 4, 1, 0, 0},  {"frame", OF_START, "phase", 4, 4, 1, 0, 0},
-    {"frame", OF_START, "word", 8, 8, 1, 0, 0},    {"line", 0, NULL, 0, 1, 0, 0, 0}};
+    {"frame", OF_START, "word", 8, 8, 1, 0, 0},    {"marks", OF_MARKS, "front", 0, 4, 1, 0, 0},
+    {"marks", OF_MARKS, "held", 4, 4, 1, 0, 0},    {"line", 0, NULL, 0, 1, 0, 0, 0}};
 
 /* ---- where the driver stands ---- */
 

@@ -1,4 +1,4 @@
-// The inside of the C library: numbers and samples in byte buffers. The functions ask of their caller that the bytes are there; they are for the crates `host`, `host_lanes` and `host_lines` above, and for no other.
+// The inside of the C library: numbers and samples in byte buffers. The functions ask of their caller that the bytes are there; they are for the crates `host`, `host_lanes`, `host_lines` and `host_queue` above, and for no other.
 mod number_bytes;
 mod sample_bytes;
 

@@ -1,15 +1,15 @@
 // Lists of calls on lanes, drawn and tallied as those on one converter.
 ghost use Prim.Native.Nat.{_≤_, _<_};
-use crate::Tally;
-use crate::answered;
 use crate::any_kernel;
-use crate::clipped;
-use crate::counted;
-use crate::draw;
-use crate::ended;
 use crate::fill;
 use crate::phase;
 use crate::setting;
+use check_draws::Tally;
+use check_draws::answered;
+use check_draws::clipped;
+use check_draws::counted;
+use check_draws::draw;
+use check_draws::ended;
 use lanes::feed_lanes;
 use lanes_spec::FedLanes;
 use lanes_state::Lanes;
@@ -31,18 +31,24 @@ fn returned(tally: Tally, lanes: Lanes, refusal: u8) -> LaneRun {
     }
 }
 
-// The tally with the clips of all lanes.
-fn lanes_clipped(tally: Tally, answer: FedLanes) -> Tally {
-    let highs = answer.highs;
-    let lows = answer.lows;
-    clipped(tally, &highs, &lows)
+// The tally with the clips of each lane, high and low.
+fn lanes_clipped(tally: Tally, highs: &[usize; 16], lows: &[usize; 16]) -> Tally {
+    let mut after = tally;
+    let mut i = 0;
+    while i < 16 {
+        after = clipped(after, highs[i], lows[i]);
+        i += 1;
+    }
+    after
 }
 
 // A feed more, with the whole buffer that its output places are the first of.
 fn returned_feed(tally: Tally, answer: FedLanes, buffer: &[i16]) -> LaneRun {
     let next = returned(tally, answer.lanes, answer.refusal);
     let fed = counted(next.tally, answer.taken, answer.written);
-    let after = lanes_clipped(fed, answer);
+    let highs = answer.highs;
+    let lows = answer.lows;
+    let after = lanes_clipped(fed, &highs, &lows);
     let end = answer.end;
     let whole = ended(after, end, buffer);
     LaneRun {

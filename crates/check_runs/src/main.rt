@@ -3,44 +3,21 @@
 // overflow and of access out of bounds.
 mod lane_lists;
 
-ghost use Prim.Native.Nat.{_≤_, _<_};
-use converter_spec::End;
+ghost use Prim.Native.Nat.{_≤_};
+use check_draws::Tally;
+use check_draws::answered;
+use check_draws::draw;
+use check_draws::empty;
+use check_draws::long;
+use check_draws::show;
 use converter_spec::Fed;
 use converter_state::State;
-use libc::STDOUT_FILENO;
 use oscillator_spec::Setting;
-
-// The calls so far: a hash of what they answered, and totals.
-struct Tally {
-    hash: u64,
-    calls: u64,
-    taken: u64,
-    written: u64,
-    high: u64,
-    low: u64,
-    refused: u64,
-}
 
 // The state that the next call is handed, and the calls before it.
 struct Run {
     state: State,
     tally: Tally,
-}
-
-// A number below n, which is at most 2^16. The seed stays below 2^31, so the first remainder changes nothing.
-fn draw(seed: &mut u64, n: u64) -> u64
-    requires { ⌜ 0 < n ⌝ }
-    ensures { λ r. ⌜ r < n ⌝ }
-{
-    let next = (*seed % 0x8000_0000 * 1103515245 + 12345) % 0x8000_0000;
-    *seed = next;
-    next / 0x8000 % n
-}
-
-fn long(seed: &mut u64) -> u32 {
-    let high = draw(seed, 0x1_0000);
-    let low = draw(seed, 0x1_0000);
-    (high * 0x1_0000 + low) as u32
 }
 
 // Of any size up to 32 bits.
@@ -131,35 +108,10 @@ fn phase(seed: &mut u64) -> u32 {
     }
 }
 
-fn small(seed: &mut u64) -> i16 {
-    let n = draw(seed, 100) as u16;
-    if draw(seed, 2) == 0 {
-        return integers::signed(n);
-    }
-    integers::signed(65535 - n)
-}
-
-fn outermost(seed: &mut u64) -> i16 {
-    if draw(seed, 2) == 0 { -32768 } else { 32767 }
-}
-
-fn sample(seed: &mut u64, kind: u64) -> i16 {
-    match kind {
-        0 => small(seed),
-        1 => outermost(seed),
-        _ => integers::signed(draw(seed, 0x1_0000) as u16),
-    }
-}
-
 // Every place drawn, all of one kind.
 fn fill(seed: &mut u64, places: &mut [i16]) {
     let kind = draw(seed, 3);
-    let mut i = 0;
-    while i < places.len() {
-        let x = sample(seed, kind);
-        places[i] = x;
-        i += 1;
-    }
+    check_draws::fill(seed, kind, places)
 }
 
 // A good state, whether or not a run reaches it.
@@ -205,105 +157,6 @@ fn handed_in(seed: &mut u64) -> State {
             ..state
         },
         _ => state,
-    }
-}
-
-// The hash with one more number. It stays below 2^47 and no number that comes here is larger, so the first remainders change nothing.
-fn mix(hash: u64, n: u64) -> u64 {
-    (hash % 0x8000_0000_0000 * 65599 + n % 0x8000_0000_0000) % 0x8000_0000_0000
-}
-
-fn mix_samples(hash: u64, samples: &[i16]) -> u64 {
-    let mut mixed = hash;
-    let mut i = 0;
-    while i < samples.len() {
-        let x = samples[i];
-        mixed = mix(mixed, integers::bits(x) as u64);
-        i += 1;
-    }
-    mixed
-}
-
-// The state's numbers, and the samples of its window, or of lanes those of all windows.
-fn mix_state(hash: u64, state: State, windows: &[i16]) -> u64 {
-    let mut mixed = mix(hash, state.kernel as u64);
-    mixed = mix(mixed, state.needed as u64);
-    mixed = mix(mixed, state.register as u64);
-    mixed = mix(mixed, state.word % 0x1_0000_0000);
-    mixed = mix(mixed, state.word / 0x1_0000_0000);
-    mix_samples(mixed, windows)
-}
-
-// No total comes near 2^47, so the remainders change nothing.
-fn sum(total: u64, n: u64) -> u64 {
-    total % 0x8000_0000_0000 + n % 0x8000_0000_0000
-}
-
-fn flag(refusal: u8) -> u64 {
-    if refusal == 0 { 0 } else { 1 }
-}
-
-// The tally with a call that returned the state, with its window or those of all lanes, and the refusal.
-fn answered(tally: Tally, state: State, windows: &[i16], refusal: u8) -> Tally {
-    let hash = mix(mix_state(tally.hash, state, windows), refusal as u64);
-    let calls = sum(tally.calls, 1);
-    let refused = sum(tally.refused, flag(refusal));
-    Tally {
-        hash: hash,
-        calls: calls,
-        refused: refused,
-        ..tally
-    }
-}
-
-// Document 01's number of an end.
-fn end_of(end: End) -> u64 {
-    match end {
-        End::Hungry => 0,
-        End::Full => 1,
-    }
-}
-
-// The tally with the clips of each lane, high and low.
-fn clipped(tally: Tally, highs: &[usize], lows: &[usize]) -> Tally {
-    let mut after = tally;
-    let mut i = 0;
-    while i < highs.len() && i < lows.len() {
-        let high = highs[i] as u64;
-        let low = lows[i] as u64;
-        let hash = mix(mix(after.hash, high), low);
-        let all_high = sum(after.high, high);
-        let all_low = sum(after.low, low);
-        after = Tally {
-            hash: hash,
-            high: all_high,
-            low: all_low,
-            ..after
-        };
-        i += 1;
-    }
-    after
-}
-
-// The tally with the samples taken and the outputs written of a feed.
-fn counted(tally: Tally, taken: usize, written: usize) -> Tally {
-    let hash = mix(mix(tally.hash, taken as u64), written as u64);
-    let all_taken = sum(tally.taken, taken as u64);
-    let all_written = sum(tally.written, written as u64);
-    Tally {
-        hash: hash,
-        taken: all_taken,
-        written: all_written,
-        ..tally
-    }
-}
-
-// The tally with a feed's end, and the whole buffer that its output places are the first of.
-fn ended(tally: Tally, end: End, buffer: &[i16]) -> Tally {
-    let hash = mix_samples(mix(tally.hash, end_of(end)), buffer);
-    Tally {
-        hash: hash,
-        ..tally
     }
 }
 
@@ -372,12 +225,7 @@ fn fed(seed: &mut u64, run: Run) -> Run {
     let window = after.window;
     let tally = answered(run.tally, after, &window, answer.refusal);
     let counts = answer.counts;
-    let clips = counts.clips;
-    let highs = [clips.high];
-    let lows = [clips.low];
-    let end = counts.end;
-    let fed = counted(tally, counts.taken, counts.written);
-    let whole = ended(clipped(fed, &highs, &lows), end, &output);
+    let whole = check_draws::fed(tally, counts, &output);
     Run {
         state: after,
         tally: whole,
@@ -462,37 +310,13 @@ fn list(seed: &mut u64, group: u8, tally: Tally) -> Tally {
 
 fn lists(group: u8) -> Tally {
     let mut seed = group as u64;
-    let mut tally = Tally {
-        hash: 0,
-        calls: 0,
-        taken: 0,
-        written: 0,
-        high: 0,
-        low: 0,
-        refused: 0,
-    };
+    let mut tally = empty();
     let mut i: u64 = 0;
     while i < 200 {
         tally = list(&mut seed, group, tally);
         i += 1;
     }
     tally
-}
-
-fn number(name: &[u8], n: u64) {
-    io::write_all(STDOUT_FILENO, name);
-    io::print_decimal(STDOUT_FILENO, n);
-}
-
-fn show(group: &[u8], tally: Tally) {
-    number(group, tally.calls);
-    number(b" calls, hash ", tally.hash);
-    number(b", taken ", tally.taken);
-    number(b", written ", tally.written);
-    number(b", high ", tally.high);
-    number(b", low ", tally.low);
-    number(b", refused ", tally.refused);
-    io::write_all(STDOUT_FILENO, b"\n");
 }
 
 fn main() {

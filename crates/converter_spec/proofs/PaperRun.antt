@@ -7,6 +7,7 @@ use native.Mathlib.Omega.{arith}
 use lib.Dec.{leb}
 use lib.IntN.{ℤ}
 use lib.ListN.{length, take, getD, length-append}
+use Rattle.oscillator_spec.specs.declared.settings.Setting.{Setting}
 use Rattle.oscillator_spec.specs.Word.{Outcome, word, refused, wordOf}
 use Rattle.oscillator_spec.specs.Position.{position, Oscillator, next}
 use Rattle.oscillator_spec.proofs.Positions.{position-append}
@@ -48,6 +49,33 @@ joins-onward p xs j c e =
       positions = ap (first (p .oscillator)) l;
       after = ap (positionAt (p .oscillator)) l;
     }
+
+-- what a feed comes to, however it ends: so many samples joined, so many outputs made
+pub record Joins (p : Paper) (xs : List ℤ) (d : Did) : Type 0 where
+  pub taken : ℕ
+  pub made : ℕ
+  pub end : End
+  pub is : d ≡ joins p xs taken made end
+
+joins-are : (p : Paper) (xs : List ℤ) (j c : ℕ) (e : End) → Joins p xs (joins p xs j c e)
+joins-are p xs j c e = record { taken = j; made = c; end = e; is = refl }
+
+pub feed-joins : (p : Paper) (xs : List ℤ) (space : ℕ) → Joins p xs (does p (feed xs space))
+unfolding does feeds
+feed-joins p xs space = by-count (leb (counted p xs) space) refl
+  where
+    by-count : (b : Bool) → leb (counted p xs) space ≡ b → Joins p xs (feeds p xs space)
+    by-count true e = rw e (joins-are p xs _ _ HUNGRY)
+    by-count false e = rw e (joins-are p xs _ _ FULL)
+
+-- a retune joins nothing
+pub retune-joined : (p : Paper) (a : Setting) → does p (retune a) .paper .joined ≡ p .joined
+unfolding does
+retune-joined p a = by-word (wordOf a)
+  where
+    by-word : (o : Outcome) → retunes p o .paper .joined ≡ p .joined
+    by-word (word w) = refl
+    by-word (refused n) = refl
 
 pub onward : (p : Paper) (g : Given) → Onward p (does p g)
 unfolding does feeds

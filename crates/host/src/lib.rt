@@ -1,4 +1,4 @@
-// The inside of the C library: images, and feeding over byte buffers. Its functions are for the crates `host_lanes`, `host_lines` and `resampler` above, and for no other.
+// The inside of the C library: images, and feeding over byte buffers. Its functions are for the crates `host_lanes`, `host_lines`, `host_queue` and `resampler` above, and for no other.
 mod byte_feed;
 mod byte_pass;
 mod image;

@@ -1,10 +1,10 @@
--- An image of lanes that is written in parts: the image of lane 0, then the clip counts, or zeros over all that lies behind it. Assumes nothing.
+-- An image of lanes that is written in parts: the image of lane 0, then the clip counts; or zeros behind lane 0's, then that. Assumes nothing.
 use mathlib.Core.Path.{_≡_, refl, sym, ap, _∙_}
 use mathlib.Core.List.{List, [], _∷_, _++_, flatMap, append-assoc, append-nil}
-use Prim.Native.Nat.{ℕ, _+_, _-_}
+use Prim.Native.Nat.{ℕ, _+_, _-_, _≤_}
 use native.Mathlib.Omega.{arith}
 use lib.ListN.{length, take, drop, replicate, length-append, length-drop}
-use lib.Seq.{take-at, take-append-add}
+use lib.Seq.{length-take-le, take-at, drop-at, take-append-add}
 use Rattle.bytes_spec.specs.Bytes.{bytesOf}
 use Rattle.kernels_spec.specs.declared.clips.Clips.{Clips}
 use Rattle.bytes_spec.proofs.LentParts.{lent, lent-length, past-lent, returned}
@@ -42,9 +42,20 @@ module _ (first img : List ℕ) (n : length first ≡ imageLength) (l : length i
       ∙ append-assoc first (otherWindows img) (flatMap sidesOf cs)
       ∙ (λ t. f t ++ (w t ++ flatMap sidesOf cs))
 
-  -- or all bytes behind lane 0's image are
-  pub all-cleared : {zs : List ℕ} → zs ≡ replicate (length (lent imageLength begun)) 0 → returned imageLength begun zs ≡ first ++ replicate (lanesLength - imageLength) 0
-  all-cleared z =
-      let m : length (lent imageLength begun) ≡ lanesLength - imageLength = lent-length imageLength begun ∙ ap (λ k. k - imageLength) begun-long in
-      (λ t. take-at first (drop imageLength img) imageLength n t ++ ((z ∙ ap (λ k. replicate k 0) m) t ++ past-lent imageLength begun t))
-      ∙ ap (λ w. first ++ w) (append-nil (replicate (lanesLength - imageLength) 0))
+-- zeros over all bytes behind lane 0's image
+module _ (img : List ℕ) (l : length img ≡ lanesLength) where
+  front-long : length (take imageLength img) ≡ imageLength
+  front-long = length-take-le imageLength img (omega (arith, l))
+
+  pub cleared-long : (zs : List ℕ) → imageLength ≤ length (returned imageLength img zs)
+  cleared-long zs = omega (arith, front-long, length-append (take imageLength img) (zs ++ drop (length img - imageLength) (drop imageLength img)))
+
+  pub cleared-front : (zs : List ℕ) → length (take imageLength (returned imageLength img zs)) ≡ imageLength
+  cleared-front zs = ap length (take-at (take imageLength img) (zs ++ drop (length img - imageLength) (drop imageLength img)) imageLength front-long) ∙ front-long
+
+  pub cleared-rest : {zs : List ℕ} → zs ≡ replicate (length (lent imageLength img)) 0 → drop imageLength (returned imageLength img zs) ≡ replicate (lanesLength - imageLength) 0
+  cleared-rest {zs} z =
+      let m : length (lent imageLength img) ≡ lanesLength - imageLength = lent-length imageLength img ∙ ap (λ k. k - imageLength) l in
+      drop-at (take imageLength img) (zs ++ drop (length img - imageLength) (drop imageLength img)) imageLength front-long
+      ∙ (λ t. (z ∙ ap (λ k. replicate k 0) m) t ++ past-lent imageLength img t)
+      ∙ append-nil (replicate (lanesLength - imageLength) 0)

@@ -123,7 +123,7 @@ module _ {image : List ℕ} (g : Good image) (input old : List ℕ) (b : Bytes i
   fed-good = rw image-fed (written-good _ run-fits (state-is _ (run-sound .0)))
 
   -- the image and the buffer show what a feed of the state answers and leaves
-  fed-shown : let n = length (samplesOf old) in
+  pub fed-shown : let n = length (samplesOf old) in
       FeedShown input old (feedReply 0 (imageFed image input old) (outputFed image input old)) (samplesOf input) (samplesOf old)
       (fedOf (stateIn image) (samplesOf input) n) (over (outputsOf (stateIn image) (samplesOf input) n) (samplesOf old))
   unfolding outputFed
@@ -266,11 +266,18 @@ start-fits k a P l h =
       end = omega arith;
     }
 
-pub host-third : HostThird
-host-third image k a P l z cs h =
+-- the image that it leaves is accepted, and holds the state
+pub start-good : (image : List ℕ) (k : ℕ) (a : Setting) (P : ℕ) → P < 2 ^ 32 → hostStart image k a P .result ≡ 0
+    → (started k a P .refusal ≡ 0) × Good (hostStart image k a P .image) × (started k a P .state ≡ stateIn (hostStart image k a P .image))
+start-good image k a P l z =
     let e = start-left image k a P z in
     let s = start-accepted k a P l (e .0) in
     let v : Saved = uncounted (started k a P .state) in
     let f = start-fits k a P l s in
-    let t = shown cs (imageOf v) (started k a P .state) (sym (ap (λ (u : Saved). u .state) (saved-image v f))) (written-good v f (state-is (v .state) (s .sound))) (rw (e .1) at h) in
-    (t, third k a P l (started k a P) refl (e .0) (t .calls) (t .seen))
+    (e .0, rw (e .1) (written-good v f (state-is (v .state) (s .sound))), rw (e .1) (sym (ap (λ (u : Saved). u .state) (saved-image v f))))
+
+pub host-third : HostThird
+host-third image k a P l z cs h =
+    let g = start-good image k a P l z in
+    let t = shown cs (hostStart image k a P .image) (started k a P .state) (g .2) (g .1) h in
+    (t, third k a P l (started k a P) refl (g .0) (t .calls) (t .seen))

@@ -8,6 +8,8 @@ use Rattle.kernels_spec.proofs.TurnedValue.{turned-value}
 use Rattle.converter_spec.proofs.Third.{third}
 use Rattle.converter_spec.proofs.SideCounts.{counted-sides}
 use Rattle.converter_spec.proofs.TurnedRuns.{turned-run}
+use Rattle.queue_spec.proofs.Kept.{nothing-lost}
+use Rattle.queue_spec.proofs.QueueThird.{queue-third}
 use Rattle.lanes_spec.proofs.LanesAlone.{each-lane-alone}
 use Rattle.lanes_spec.proofs.OneLane.{only-that-lane}
 use Rattle.lanes_spec.proofs.LanesThird.{lanes-third}
@@ -16,6 +18,7 @@ use Rattle.host_spec.proofs.ShownLanes.{host-lanes-third}
 use Rattle.host_spec.proofs.SidesShown.{host-sides}
 use Rattle.host_spec.proofs.LinesBack.{host-round-trips}
 use Rattle.host_spec.proofs.HostLineOrder.{host-in-order}
+use Rattle.host_queue_spec.proofs.ShownQueue.{on-the-queue, host-queue-third}
 use Rattle.frames_spec.proofs.LineOrder.{in-order}
 use Rattle.frames_spec.proofs.TheOneLine.{the-one-line}
 use Rattle.frames_spec.proofs.Writes.{round-trips}
@@ -56,4 +59,8 @@ promises = record {
   halves-to-even = halves-to-even;
   turned-value = turned-value;
   turned-run = turned-run;
+  nothing-lost = nothing-lost;
+  queue-third = queue-third;
+  on-the-queue = on-the-queue;
+  host-queue-third = host-queue-third;
 }

@@ -7,6 +7,8 @@ use Rattle.kernels_spec.specs.Halves.{HalvesToEven, TurnedValue}
 use Rattle.converter_spec.specs.Demand.{Third}
 use Rattle.converter_spec.specs.CountedSides.{CountedSides}
 use Rattle.converter_spec.specs.TurnedRun.{TurnedRun}
+use Rattle.queue_spec.specs.NothingLost.{NothingLost}
+use Rattle.queue_spec.specs.QueueDemand.{QueueThird}
 use Rattle.lanes_spec.specs.LaneFeeding.{EachLaneAlone}
 use Rattle.lanes_spec.specs.LaneDemand.{OnlyThatLane, LanesThird}
 use Rattle.host_spec.specs.Calls.{OnTheState, HostThird}
@@ -14,6 +16,7 @@ use Rattle.host_spec.specs.LaneCalls.{HostLanesThird}
 use Rattle.host_spec.specs.HostSides.{HostSides}
 use Rattle.host_spec.specs.HostRoundTrips.{HostRoundTrips}
 use Rattle.host_spec.specs.HostOrder.{HostInOrder}
+use Rattle.host_queue_spec.specs.QueueHostCalls.{OnTheQueue, HostQueueThird}
 use Rattle.frames_spec.specs.InOrder.{InOrder}
 use Rattle.frames_spec.specs.RoundTrips.{TheOneLine, RoundTrips}
 use Rattle.program_spec.specs.WholeRun.{WholeRun, TurnsGoOn}
@@ -81,3 +84,12 @@ pub record Promises : Type 0 where
   pub turned-value : TurnedValue
   -- and over any two lists of calls from an accepted start, one with the samples of a sensor and one with those of the sensor turned round
   pub turned-run : TurnedRun
+  -- request U7: "From an empty queue, over any list of pushes and draws on one buffer that only they change, each handed the marks that the one before it returned, what was drawn followed by what is
+  -- held equals the samples of the accepted pushes"; and when a push is refused with 16
+  pub nothing-lost : NothingLost
+  -- request U7: "The distance to the paper's run holds over the samples drawn": demand 3 whole, with a queue before the converter
+  pub queue-third : QueueThird
+  -- request U7 for the host: a list of host calls on one image, one marks and one queue buffer shows one list of calls on the samples that they hold
+  pub on-the-queue : OnTheQueue
+  -- and so, from an accepted start and marks that hold nothing, both statements are true of that list
+  pub host-queue-third : HostQueueThird

@@ -8,12 +8,15 @@ use host_lines::read_data_line;
 use host_lines::read_start_line;
 use host_lines::write_data_line;
 use host_lines::write_start_line;
+use host_queue::draw_buffers;
+use host_queue::push_buffers;
 use oscillator_spec::Setting;
 ghost use mathlib.Core.Path.{_≡_};
 ghost use Rattle.oscillator_spec.specs.declared.settings.Setting.the-variants as setting;
 ghost use Rattle.host_spec.specs.Host.{reply, feedReply, hostStart, hostRetune, hostFeed};
 ghost use Rattle.host_spec.specs.LaneHost.{hostStartLanes, hostFeedLanes};
 ghost use Rattle.host_spec.specs.HostLines.{writeReply, readReply, startReply, hostWriteData, hostWriteStart, hostReadData, hostReadStart};
+ghost use Rattle.host_queue_spec.specs.QueueHost.{pushReply, hostPush, drawReply, hostDraw};
 
 // Feeds the samples of the input, and writes outputs and the whole image.
 #[no_mangle]
@@ -165,4 +168,25 @@ pub extern "C" fn resampler_read_start(line: &[u8], frame: &mut [u8]) -> u32
     ensures { λ r. ⌜ startReply r (now (frame .exit)) ≡ hostReadStart (now (line .entry)) (now (frame .entry)) ⌝ }
 {
     read_start_line(line, frame)
+}
+
+// Pushes samples into the queue, behind those that it holds.
+#[no_mangle]
+pub extern "C" fn resampler_push(marks: &mut [u8], queue: &mut [u8], samples: &[u8]) -> u32
+    ensures { λ r. ⌜ pushReply r (now (marks .exit)) (now (queue .exit)) ≡ hostPush (now (marks .entry)) (now (queue .entry)) (now (samples .entry)) ⌝ }
+{
+    push_buffers(marks, queue, samples)
+}
+
+// Feeds what the queue holds to the image's converter, front first, and removes the samples that were taken.
+#[no_mangle]
+pub extern "C" fn resampler_draw(
+    image: &mut [u8],
+    marks: &mut [u8],
+    queue: &[u8],
+    output: &mut [u8],
+) -> u32
+    ensures { λ r. ⌜ drawReply r (now (image .exit)) (now (marks .exit)) (now (output .exit)) ≡ hostDraw (now (image .entry)) (now (marks .entry)) (now (queue .entry)) (now (output .entry)) ⌝ }
+{
+    draw_buffers(image, marks, queue, output)
 }

@@ -10,6 +10,9 @@ Inv-loop group seed₀ tally₀ i₀ seed tally i = i ≤ 200
 abbrev μ-loop : tie.MeasureT-loop
 μ-loop group seed₀ tally₀ i₀ seed tally i = 200 - i
 
+empty-requires : tie.Need-empty-requires Inv-loop μ-loop
+empty-requires c κs = search needs
+
 loop-holds : tie.Need-loop-holds Inv-loop μ-loop
 loop-holds c = search needs
 
@@ -31,4 +34,13 @@ returns c = search needs
 pub lists-spec : {M : Type 1} → statement M
 lists-spec =
     tie.close
-    (tie.spec Inv-loop μ-loop loop-holds list-requires add-i loop-less loop-again returns)
+    (tie.spec
+    Inv-loop
+    μ-loop
+    empty-requires
+    loop-holds
+    list-requires
+    add-i
+    loop-less
+    loop-again
+    returns)

@@ -1,0 +1,3 @@
+pub mod QueueHosts
+pub mod ShownQueue
+pub mod QueueHostTraces

@@ -1,0 +1,2 @@
+pub mod QueueHost
+pub mod QueueHostCalls

@@ -1,0 +1,9 @@
+pub mod Rings
+pub mod Pushes
+pub mod Draws
+pub mod Kept
+pub mod QueueThird
+pub mod QueueTraces
+pub mod QueueLaws
+pub mod CutAlike
+pub mod OneDraw

@@ -1,0 +1,5 @@
+pub mod Ring
+pub mod Queue
+pub mod QueueCalls
+pub mod NothingLost
+pub mod QueueDemand
