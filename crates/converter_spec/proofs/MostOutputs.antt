@@ -1,25 +1,26 @@
--- How many outputs a feed writes: at the most, for any state, input and space, and exactly where it has space for all of them. The sentences quoted are those of the header,
--- include/resampler.h. Assumes nothing.
+-- How many outputs a feed writes: at the most, for any state, input and space, and exactly where it has space for all of them; and how many samples so many outputs take. The sentences
+-- quoted are those of the header, include/resampler.h. Assumes nothing.
 use mathlib.Core.Path.{_≡_, refl, ap, subst}
 use mathlib.Core.Bool.{Bool, true, false, cond}
+use mathlib.Core.Logic.{_↔_}
 use mathlib.Core.List.{List, [], _∷_}
 use Prim.Native.Nat.{ℕ, zero, suc, _+_, _-_, _*_, _/_, _%_, _^_, _≤_, _<_}
 use native.Mathlib.Omega.{arith}
 use native.Mathlib.Decide.{decLt}
-use native.Mathlib.Nat.{le-div-iff-mul-le, div-mul-le-self, mul-le-mul-right, le-antisymm}
+use native.Mathlib.Nat.{le-div-iff-mul-le, div-mul-le-self, mul-le-mul-right, lt-of-mul-lt-mul-right, le-antisymm}
 use lib.IntN.{ℤ}
 use lib.ListN.{length}
 use Rattle.oscillator_spec.specs.declared.settings.Setting.{Setting}
 use Rattle.oscillator_spec.specs.Position.{half, basepoint}
 use Rattle.oscillator_spec.specs.Register.{registerOf, stepped, advanceOf}
-use Rattle.oscillator_spec.proofs.Positions.{register-phase, stepped-below, advance-is}
+use Rattle.oscillator_spec.proofs.Positions.{register-below, register-phase, stepped-below, advance-is}
 use Rattle.kernels_spec.specs.Kernel.{kernelOf}
 use Rattle.converter_state.specs.declared.state.State.{State}
 use Rattle.converter_state.specs.Start.{isState, neededAt, started}
 use Rattle.converter_spec.specs.Feeding.{HUNGRY, advanced, taking, Ran, wrote, took, rule, fedOf, outputsOf}
 use Rattle.converter_spec.proofs.RuleSteps.{rule-ind}
 use Rattle.converter_state.proofs.States.{is-state, start-accepted}
-use Rattle.converter_spec.proofs.Runs.{Ending, full, hungry, rule-ending}
+use Rattle.converter_spec.proofs.Runs.{Ending, full, hungry, rule-ending, ending-sizes}
 use Rattle.converter_spec.proofs.Amounts.{ceiling, ceiling-first}
 
 -- ---- the way that m samples open, in 2^-32 of a sample: outputs stand on it from its beginning on, a word apart
@@ -29,6 +30,22 @@ past s = registerOf (s .register + half (kernelOf (s .kernel) .nearest))
 
 abbrev pub way : State → ℕ → ℕ
 way s m = (m + 1 - s .needed) * 2 ^ 32 - past s
+
+-- "The fewest samples for so many more outputs": of k + 1 the last stands k words on from the next
+abbrev pub samplesFor : State → ℕ → ℕ
+samplesFor s zero = 0
+samplesFor s (suc k) = s .needed + (past s + k * s .word) / 2 ^ 32
+
+-- "none for no output, and the needed count for one"
+pub samples-for-none : (s : State) → samplesFor s 0 ≡ 0
+samples-for-none s = refl
+
+pub samples-for-one : (s : State) → samplesFor s 1 ≡ s .needed
+samples-for-one s = omega (arith, register-below (s .register + half (kernelOf (s .kernel) .nearest)))
+
+-- m samples open a way to the place k words on exactly where they are so many
+on-way : (s : State) (m k : ℕ) → samplesFor s (suc k) ≤ m ↔ k * s .word < way s m
+on-way s m k = ((λ l. omega (arith, l)), (λ l. omega (arith, l)))
 
 -- an output leaves it a word shorter, and there is one only where it is not empty; a sample that is taken leaves it as it is
 way-write : (s : State) (m : ℕ) → s .register < 2 ^ 32 → s .needed ≡ 0 → (1 ≤ way s m) × (way (advanced s) m ≡ way s m - s .word)
@@ -152,6 +169,19 @@ module _ (s : State) (xs : List ℤ) (n : ℕ) (l : s .register < 2 ^ 32) where
         let a = along xs n s l one in
         let k : 1 ≤ rule xs n s .state .needed = rw e at z in
         rw e (only (length (rule xs n s .outputs)) (way s (length xs)) (s .word) one (a .0) (a .1 k))
+
+    -- "With one sample fewer there are fewer outputs": a feed writes k outputs or more exactly where it has space for k and no fewer samples than they take
+    pub samples-for : (k : ℕ) → k ≤ length (outputsOf s xs n) ↔ (k ≤ n) × (samplesFor s k ≤ length xs)
+    unfolding outputsOf
+    samples-for zero = ((λ h. (omega arith, omega arith)), (λ h. omega arith))
+    samples-for (suc k) = rw e (
+      (λ h. (omega (arith, h, ending-sizes (rule-ending xs n s) .1), on-way s (length xs) k .1 (omega (arith, mul-le-mul-right (s .word) h, along xs n s l one .0)))),
+      (λ h. go (rule-ending xs n s) (h .0) (on-way s (length xs) k .0 (h .1))),
+    )
+      where
+        go : Ending xs n (rule xs n s) → suc k ≤ n → k * s .word < way s (length xs) → suc k ≤ length (rule xs n s .outputs)
+        go (full a b c d) h v = omega (arith, b, h)
+        go (hungry a b c d) h v = lt-of-mul-lt-mul-right (s .word) (omega (arith, v, along xs n s l one .1 d))
 
 -- ---- when a sample is needed: after a start, and exactly after HUNGRY
 pub start-needing : (k : ℕ) (a : Setting) (p : ℕ) → p < 2 ^ 32 → started k a p .refusal ≡ 0 → 1 ≤ started k a p .state .needed
