@@ -1,9 +1,15 @@
-/* The sample-rate converter as a C library, libresampler.a. It does what the note "The converter: oscillator,
-   kernels, feeding, frames" says, which is called document 01 here.
+/* The sample-rate converter as a C library, libresampler.a and libresampler.so. It does what the note "The converter:
+   oscillator, kernels, feeding, frames" says, which is called document 01 here. This header is C99, and C++11.
 
    A converter is an image of 40 bytes, which the host keeps. A start writes it. A feed takes samples from one
    buffer and writes outputs to another. A retune sets another ratio of the rates. The host may copy an image,
-   store it, and go on from it later, in another process or on another machine.
+   store it, and go on from it later, in another process or on another machine. In short:
+       uint8_t image[RESAMPLER_IMAGE_BYTES];
+       resampler_start_rates(image, sizeof image, RESAMPLER_CUBIC, 44100, 48000, 0);
+       do {
+           resampler_feed(image, sizeof image, input, input_length, output, output_length);
+           .. take resampler_written(image) outputs away, and go on in the input by resampler_taken(image) samples ..
+       } while (resampler_end(image) == RESAMPLER_FULL);
 
    Up to sixteen signals on one clock, called lanes, can have one image, of 288 bytes, and one feed.
 
@@ -13,7 +19,8 @@
    On their way samples stand in frame lines, which are text: a K line has kernel, word and phase, a D line a number
    and up to 64 samples. Two calls write such lines, and two read them.
 
-   Samples and outputs are byte pairs: 16 bits in two's complement, the low byte first.
+   Samples and outputs are byte pairs: 16 bits in two's complement, the low byte first. On a machine that has the low
+   byte first, as x86-64, an array of int16_t is such a buffer: (const uint8_t *)samples.
 
    An output is the whole number nearest to the kernel's value, and of two that are equally near the even one: halves go
    to the even neighbour (request U6; document 01 has them upward). A library of before takes them upward: an output is
@@ -25,14 +32,15 @@
 
    Every call returns 0 or the number of a refusal. A refused call changes no byte of any buffer.
 
-   A buffer is lent as a pointer and its length in bytes, at any alignment. No pointer may be null, also where
-   the length is 0, and the buffers of one call may not overlap. That is all that the host has to see to:
-   whatever the buffers and the other arguments hold, a call reads and writes nothing outside the buffers, and
-   ends.
+   A buffer is lent as a pointer and its length in bytes, at any alignment. Where the length is 0 the pointer may be
+   anything, also null; that is tested of every call, and not proved. The buffers of one call may not overlap. That is
+   all that the host has to see to: whatever the buffers and the other arguments hold, a call reads and writes nothing
+   outside the buffers, and ends.
 
    The library has no state of its own and allocates nothing. Several threads may call it at once, each on
    images and queues of its own, and with its own buffers to write to. What the calls do is proved; how arguments
-   reach them is the compilers' business, and the small functions at the end of this file are plain C.
+   reach them is the compilers' business. The small functions at the end of this file are plain C: they are tested and
+   not proved, and where one works out a formula that is proved, the law is named beside it.
 
    The guarantee. Take any list of feeds and retunes on one image, lent whole, from an accepted start, refused
    calls included, where nothing else changes the image in between. Refusal 5 does not occur in it. Each accepted
@@ -63,6 +71,15 @@
 #ifdef __cplusplus
 extern "C" {
 #endif
+
+/* The version. Where its first number is higher than that of the library that a host was built for, the host has to be
+   looked at and compiled anew: a layout, a call or an answer is another. Where the second number is, there is more than
+   before, and where only the third is, neither. `strings` shows the version of an installed library behind the word
+   `resampler`, beside the sum of the logic in which it was proved. The shared library's name has the first number. */
+#define RESAMPLER_VERSION "1.0.0"
+#define RESAMPLER_VERSION_MAJOR 1
+#define RESAMPLER_VERSION_MINOR 0
+#define RESAMPLER_VERSION_PATCH 0
 
 /* Kernels. The basepoint b of an output is the sample at or before its position; for the three-point kernel it is
    the nearest one, halves upward. The kernel is evaluated at u, the fraction from b rounded down to a multiple of
@@ -256,7 +273,8 @@ uint32_t resampler_retune_rates(uint8_t *image, size_t image_length, uint32_t fi
 
    So after HUNGRY all the input was taken, and all outputs are written that the samples so far allow. After FULL
    the space is all written and another output is due: the host calls again with new space, and with the input that
-   was not taken, which may be none.
+   was not taken, which may be none. At the end of a stream outputs still wait for one or two samples that do not come.
+   To get them the host feeds others, such as copies of the last; resampler_samples_for says how many.
 
    Where a sample is needed, as after a start or HUNGRY, a feed of n samples writes at most n times 2^32 / word outputs,
    rounded up. Where none is needed, as after FULL, it writes at most (n + 1) times 2^32 / word, rounded up: the output
@@ -381,11 +399,69 @@ uint32_t resampler_read_start(const uint8_t *line, size_t line_length, uint8_t *
 #define resampler_read_data resampler_read_data
 #define resampler_read_start resampler_read_start
 
-/* Four bytes as a number, the low byte first. */
+/* A refusal in words, without a full stop; "accepted" of 0, and "unknown refusal" of a number that no call returns. */
+static inline const char *resampler_refusal_text(uint32_t refusal)
+{
+    switch (refusal) {
+    case RESAMPLER_ACCEPTED:
+        return "accepted";
+    case RESAMPLER_BAD_KERNEL:
+        return "kernel above 3";
+    case RESAMPLER_BAD_RATIO:
+        return "ratio not finite, or below zero";
+    case RESAMPLER_BAD_RATE:
+        return "output rate 0";
+    case RESAMPLER_BAD_WORD:
+        return "word 0 or above 2^34: input rate next to 0, or above 4 times the output rate";
+    case RESAMPLER_BAD_IMAGE:
+        return "image not started; image, frame or marks of another length or out of range; or queue buffer above "
+               "16,384 samples";
+    case RESAMPLER_NO_LINE_END:
+        return "no byte 10 in the first 270 bytes, or in those that were lent";
+    case RESAMPLER_BAD_LETTER:
+        return "first letter not the one called for, or line empty";
+    case RESAMPLER_BAD_DIGIT:
+        return "another character than 0-9, A-F after the letter";
+    case RESAMPLER_BAD_LENGTH:
+        return "K line not of 18 digits, or D line under 12, count 0 or above 64, or not 12 + 4 times count";
+    case RESAMPLER_BAD_CHECK:
+        return "check of the line fails";
+    case RESAMPLER_SHORT_BUFFER:
+        return "sample buffer shorter than the count";
+    case RESAMPLER_BAD_BUFFER:
+        return "sample buffer of odd length or above 65,536 bytes, or queue buffer of odd length";
+    case RESAMPLER_BAD_LANES:
+        return "lane count 0 or above 16, or samples of input or places of output not a multiple of it";
+    case RESAMPLER_BAD_WRITE:
+        return "no samples to write, or above 64, or line buffer shorter than the line";
+    case RESAMPLER_BAD_SEQUENCE:
+        return "sequence number not the next";
+    case RESAMPLER_QUEUE_FULL:
+        return "samples held and samples offered together more than the queue buffer has";
+    default:
+        return "unknown refusal";
+    }
+}
+
+/* Four bytes, and eight, as a number, the low byte first. */
 static inline uint32_t resampler_number(const uint8_t *at)
 {
     return at[0] | (uint32_t)at[1] << 8 | (uint32_t)at[2] << 16 | (uint32_t)at[3] << 24;
 }
+static inline uint64_t resampler_long_number(const uint8_t *at)
+{
+    return resampler_number(at) | (uint64_t)resampler_number(at + 4) << 32;
+}
+
+/* What an image says of its converter: the kernel, the samples still needed before the next output, its position modulo
+   2^32 in 2^-32 of a sample, and the word. Of an image of lanes it is the same for every lane. */
+static inline uint32_t resampler_kernel(const uint8_t *image) { return image[RESAMPLER_AT_KERNEL]; }
+static inline uint32_t resampler_needed(const uint8_t *image) { return image[RESAMPLER_AT_NEEDED]; }
+static inline uint32_t resampler_register(const uint8_t *image)
+{
+    return resampler_number(image + RESAMPLER_AT_REGISTER);
+}
+static inline uint64_t resampler_word(const uint8_t *image) { return resampler_long_number(image + RESAMPLER_AT_WORD); }
 
 /* What the last accepted feed or draw did. Samples and outputs are counted, not bytes. Clips are the sum of both sides,
    high and low. Of an image of lanes samples and outputs are those of each lane, and the clips are those of lane 0. */
@@ -412,6 +488,54 @@ static inline size_t resampler_lane_window(size_t lane)
 {
     return lane == 0 ? RESAMPLER_AT_WINDOW
                      : RESAMPLER_AT_LANE_WINDOWS + (lane - 1) * RESAMPLER_WINDOW * RESAMPLER_SAMPLE_BYTES;
+}
+
+/* How many outputs and samples there will be. What the next four functions answer holds of every image that a feed
+   accepts, as long as the word stays, and of an image of lanes for each lane. Whatever they are given, they end and do
+   not divide by zero. They are right for up to 2^32 - 2 samples, where a feed takes 32,768 at the most.
+
+   The most outputs of a feed or draw of so many samples at a word, whatever else the image holds: (samples + 1) times
+   2^32 / word, rounded up; 0 for the word 0, which no image has. With space for so many it ends HUNGRY. Both are proved
+   (laws `most-due` and `enough-due`). */
+static inline uint64_t resampler_most_outputs(uint64_t word, uint32_t samples)
+{
+    return word == 0 ? 0 : ((uint64_t)samples << 32 | 0xFFFFFFFF) / word + 1;
+}
+
+/* How far the next output stands past its basepoint, for the three-point kernel past half a sample before it, in 2^-32
+   of a sample. */
+static inline uint32_t resampler_past(const uint8_t *image)
+{
+    return resampler_register(image) + (resampler_kernel(image) == RESAMPLER_THREE_POINT ? 0x80000000 : 0);
+}
+
+/* The outputs of a feed or draw of so many samples that has space for them all, exactly (proved: law `exactly`). */
+static inline uint64_t resampler_outputs_for(const uint8_t *image, uint32_t samples)
+{
+    uint64_t word = resampler_word(image), needed = resampler_needed(image);
+    if (word == 0 || samples < needed)
+        return 0;
+    return ((samples - needed) << 32 | (0xFFFFFFFF - resampler_past(image))) / word + 1;
+}
+
+/* The fewest samples for so many more outputs: none for no output, and the needed count for one. With one sample fewer
+   there are fewer outputs (proved: law `samples-for`). */
+static inline uint64_t resampler_samples_for(const uint8_t *image, uint32_t outputs)
+{
+    uint64_t word = resampler_word(image), steps = outputs;
+    if (steps-- == 0)
+        return 0;
+    return resampler_needed(image) + steps * (word >> 32) +
+           ((steps * (word & 0xFFFFFFFF) + resampler_past(image)) >> 32);
+}
+
+/* How long after its position the next output can be written, where samples come one by one, in 2^-32 of a sample
+   period: the last sample that it needs stands R past its basepoint. 0xC0000000 is three quarters of a sample. */
+static inline uint64_t resampler_delay(const uint8_t *image)
+{
+    uint32_t kernel = resampler_kernel(image);
+    uint64_t reach = kernel <= RESAMPLER_THREE_POINT ? 1 : 2, half = kernel == RESAMPLER_THREE_POINT ? 0x80000000 : 0;
+    return (reach << 32) + half - resampler_past(image);
 }
 
 /* Where the oldest sample of a queue lies, and how many samples it holds. */
@@ -448,8 +572,7 @@ static inline uint32_t resampler_line_phase(const uint8_t *frame)
 }
 static inline uint64_t resampler_line_word(const uint8_t *frame)
 {
-    const uint8_t *at = frame + RESAMPLER_AT_START_WORD;
-    return resampler_number(at) | (uint64_t)resampler_number(at + 4) << 32;
+    return resampler_long_number(frame + RESAMPLER_AT_START_WORD);
 }
 
 /* Sample `place` of a buffer, counted from 0. */

@@ -1,7 +1,7 @@
 /* A library with a mistake, which tests/drivers links in the place of the feeds, and of the calls for D lines and for
    queues, to see whether the drivers tell it. The mistake is named by the variable PLANTED. It is made in the third
    accepted feed that writes an output; a mistake of halves, lanes, lines or queues in the first call in which it
-   shows. */
+   shows, and one with empty buffers in every call. */
 #include "resampler.h"
 
 #include <stdlib.h>
@@ -24,6 +24,19 @@ static int planted(const char *name)
 {
     const char *chosen = getenv("PLANTED");
     return chosen != NULL && strcmp(chosen, name) == 0;
+}
+
+/* Mistakes with empty buffers: the first byte of what is read is looked at, or that of what is written is written anew
+   as it is, whether there is one or not; and a null pointer is refused. */
+static int mistake_empty(const uint8_t *read, uint8_t *written)
+{
+    if (planted("empty read"))
+        (void)*(const volatile uint8_t *)read;
+    if (planted("empty written")) {
+        volatile uint8_t *first = written;
+        *first = *first;
+    }
+    return planted("null refused") && (read == NULL || written == NULL);
 }
 
 /* What a mistake makes of an output that stands on a half: the number above, as before request U6, or the one away from
@@ -75,6 +88,8 @@ uint32_t __wrap_resampler_feed(uint8_t *image, size_t image_length, const uint8_
 {
     static int feeds, made;
     uint8_t before[RESAMPLER_IMAGE_BYTES];
+    if (mistake_empty(input, output))
+        return RESAMPLER_BAD_IMAGE;
     memcpy(before, image, image_length < sizeof before ? image_length : sizeof before);
     uint32_t result = __real_resampler_feed(image, image_length, input, input_length, output, output_length);
     if (result == 0 && !made && (planted("halves upward") || planted("halves away")))
@@ -135,6 +150,8 @@ uint32_t __wrap_resampler_feed_lanes(uint8_t *image, size_t image_length, uint32
     enum { WINDOW = RESAMPLER_WINDOW * RESAMPLER_SAMPLE_BYTES };
     static int made;
     uint8_t before[RESAMPLER_LANES_BYTES], right[RESAMPLER_LANES_BYTES];
+    if (mistake_empty(input, output))
+        return RESAMPLER_BAD_IMAGE;
     memcpy(before, image, image_length < sizeof before ? image_length : sizeof before);
     uint32_t result =
         __real_resampler_feed_lanes(image, image_length, lanes, input, input_length, output, output_length);
@@ -156,6 +173,8 @@ uint32_t __wrap_resampler_write_data(uint32_t sequence, const uint8_t *samples, 
                                      size_t line_length)
 {
     static int made;
+    if (mistake_empty(samples, line))
+        return RESAMPLER_BAD_IMAGE;
     uint32_t result = __real_resampler_write_data(sequence, samples, samples_length, line, line_length);
     size_t length = RESAMPLER_DATA_LINE_BYTES(samples_length / RESAMPLER_SAMPLE_BYTES);
     if (result != 0 || made)
@@ -182,6 +201,8 @@ uint32_t __wrap_resampler_read_data(const uint8_t *line, size_t line_length, uin
 {
     static int made;
     uint8_t any[RESAMPLER_DATA_FIELDS_BYTES];
+    if (mistake_empty(line, samples))
+        return RESAMPLER_BAD_IMAGE;
     uint32_t result = __real_resampler_read_data(line, line_length, frame, frame_length, samples, samples_length);
     if (planted("line fields") && result == RESAMPLER_BAD_CHECK && !made++) /* written, though the line is refused */
         frame[RESAMPLER_AT_COUNT] ^= 1;
@@ -240,6 +261,8 @@ uint32_t __wrap_resampler_push(uint8_t *marks, size_t marks_length, uint8_t *que
     size_t kept = queue_length < sizeof stored ? queue_length : sizeof stored;
     size_t offered = samples_length / RESAMPLER_SAMPLE_BYTES;
     struct queue before = queue_of(marks, marks_length, queue_length);
+    if (mistake_empty(samples, queue))
+        return RESAMPLER_BAD_IMAGE;
     memcpy(stored, queue, kept);
     uint32_t result = __real_resampler_push(marks, marks_length, queue, queue_length, samples, samples_length);
     size_t after = before.held + offered, end = before.front + before.held;
@@ -287,6 +310,8 @@ uint32_t __wrap_resampler_draw(uint8_t *image, size_t image_length, uint8_t *mar
     int parts = before.front < before.length && before.held <= before.length &&
                 before.front + before.held > before.length;
     int first_alone = planted("queue part") && parts;
+    if (mistake_empty(queue, output))
+        return RESAMPLER_BAD_IMAGE;
     memcpy(fed, image, image_length < sizeof fed ? image_length : sizeof fed);
     if (first_alone)
         put_marks(marks, before.front, before.length - before.front);

@@ -25,6 +25,9 @@
 #ifndef FEEDS_ONLY
 #define FEEDS_ONLY 0 /* -DFEEDS_ONLY makes it 1, for a target where no option can be given */
 #endif
+#ifndef NULLS
+#define NULLS 0 /* -DNULLS makes it 1 */
+#endif
 #define GUARD 64        /* bytes on either side of a buffer */
 #define LARGEST 1048576 /* bytes in a buffer */
 #define MOST 6          /* numbers of a call, and buffers */
@@ -46,6 +49,7 @@ static const char usage[] =
     "  --alarm SECONDS  give up if a call has not answered after so long\n"
     "  --report FILE    write a line of JSON for each file\n"
     "  --feeds-only     make no starts and retunes, but take what they leave from the files\n"
+    "  --null           lend a null pointer for a buffer of length 0\n"
     "  --help           print this\n";
 
 #ifdef SHEET
@@ -56,14 +60,14 @@ static const unsigned char sheet[] = {
 
 /* ---- the tables ---- */
 
-/* The buffer of a name: where it is lent, and what it must hold before and after the call that was
-   read last, as text of the sheet. */
+/* The buffer of a name: where it lies, as what pointer it is lent, and what it must hold before and
+   after the call that was read last, as text of the sheet. */
 struct buffer {
     char name[32];
     const char *before, *after;
     size_t length;
     int writable;
-    uint8_t *at;
+    uint8_t *at, *lent;
 };
 
 struct row {
@@ -71,8 +75,8 @@ struct row {
     uint32_t (*make)(struct buffer **b, const uint64_t *n, const double *f);
 };
 
-#define B(i) b[i]->at, b[i]->length
-#define FRONT(i) b[i]->at, b[i]->length < IMAGE ? b[i]->length : IMAGE
+#define B(i) b[i]->lent, b[i]->length
+#define FRONT(i) b[i]->lent, b[i]->length < IMAGE ? b[i]->length : IMAGE
 #define CALL(name, numbers, buffers, call)                                             \
     static uint32_t make_##name(struct buffer **b, const uint64_t *n, const double *f) \
     {                                                                                  \
@@ -128,7 +132,7 @@ static const struct field fields[] = {
 
 /* ---- where the driver stands ---- */
 
-static int quiet, feeds_only = FEEDS_ONLY;
+static int quiet, feeds_only = FEEDS_ONLY, nulls = NULLS;
 static unsigned long most_told = 5, seconds;
 static FILE *report;
 
@@ -152,7 +156,7 @@ static struct {
 } call;
 
 static struct {
-    unsigned long agreed, differ, taken, not_made, files, skipped, bad;
+    unsigned long agreed, differ, taken, not_made, nulls, files, skipped, bad;
 } total;
 
 static _Alignas(2) uint8_t store[STORE];
@@ -487,8 +491,9 @@ static uint8_t guard_byte(size_t i)
     return (uint8_t)(0xA5 ^ (i * 37));
 }
 
-/* Lays the buffers one after another, each at an odd address with guard bytes on either side. Where
-   they lie, or null if there is no memory. */
+/* Lays the buffers one after another, each at an odd address with guard bytes on either side. With
+   --null one of length 0 is lent as a null pointer. Where they lie, or null if there is no
+   memory. */
 static uint8_t *lend(void)
 {
     size_t size = 0, end = 0, k;
@@ -501,6 +506,8 @@ static uint8_t *lend(void)
         struct buffer *buffer = call.buffers[i];
         struct stream stream = stream_of(buffer->before);
         buffer->at = memory + ((end + GUARD) | 1);
+        buffer->lent = nulls && buffer->length == 0 ? NULL : buffer->at;
+        total.nulls += buffer->lent == NULL;
         for (k = 0; k < buffer->length; k++)
             buffer->at[k] = (uint8_t)next_byte(&stream);
         for (k = 0; k < 2 * GUARD; k++)
@@ -752,6 +759,8 @@ static int print_total(void)
         printf(", %lu taken from the files", total.taken);
     if (total.not_made > 0)
         printf(", %lu not made", total.not_made);
+    if (nulls)
+        printf(", %lu null pointers lent", total.nulls);
     printf("; %lu of %lu files agree", total.files - total.bad - total.skipped, total.files);
     if (total.skipped > 0)
         printf(", %lu skipped", total.skipped);
@@ -792,6 +801,8 @@ static int read_options(int count, char **words)
             quiet = 1;
         } else if (strcmp(option, "--feeds-only") == 0) {
             feeds_only = 1;
+        } else if (strcmp(option, "--null") == 0) {
+            nulls = 1;
         } else if (strcmp(option, "--first") == 0) {
             most_told = read_option_number(option, words[++i]);
         } else if (strcmp(option, "--alarm") == 0 && ALARM != 0) {
