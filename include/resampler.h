@@ -20,7 +20,7 @@
    and up to 64 samples. Two calls write such lines, and two read them.
 
    Samples and outputs are byte pairs: 16 bits in two's complement, the low byte first. On a machine that has the low
-   byte first, as x86-64, an array of int16_t is such a buffer: (const uint8_t *)samples.
+   byte first, as x86-64 has, an array of int16_t is such a buffer: (const uint8_t *)samples.
 
    An output is the whole number nearest to the kernel's value, and of two that are equally near the even one: halves go
    to the even neighbour (request U6; document 01 has them upward). A library of before takes them upward: an output is
