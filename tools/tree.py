@@ -1,4 +1,4 @@
-# What tools/pages and tools/listing share: files, the crates, and what a crate exports.
+# What the scripts share: files, the crates and what a crate exports; tables, and pages in which measured texts have a place.
 import pathlib
 import re
 import sys
@@ -25,6 +25,18 @@ def write(path, text):
     path.parent.mkdir(parents=True, exist_ok=True)
     path.write_text(text, encoding="utf-8")
     print(f"{path.relative_to(ROOT)} written")
+
+def table(head, rows):
+    return "\n".join("| " + " | ".join(map(str, row)) + " |" for row in [head, ["---"] * len(head), *rows])
+
+def filled(path, texts):  # a page with each text in its place, from <!-- measured: NAME --> to <!-- end -->
+    page = path.read_text(encoding="utf-8")
+    for name, text in texts.items():
+        place = re.compile(rf"(<!-- measured: {name} -->\n).*?(<!-- end -->)", re.S)
+        page, places = place.subn(lambda found: f"{found[1]}\n{text}\n\n{found[2]}", page)
+        if places != 1:
+            fail(f"{path.relative_to(ROOT)} has {places} places for {name}; it should have one")
+    return page
 
 # The crates, in the order of crates.txt.
 @cache
