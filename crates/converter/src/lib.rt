@@ -1,3 +1,4 @@
+#![tactic(auto)]
 // Block feeding: `feed`, over samples, and `feed_parts`, over samples that lie in two parts. The contracts cite the definitions of `converter_spec`, with the statement of demand 3.
 mod block;
 mod parts;

@@ -1,4 +1,5 @@
-// The C library: host calls over byte buffers. `rt staticlib resampler` makes the archive, include/resampler.h declares the calls for C, and the contracts cite the definitions of `host_spec`.
+#![tactic(auto)]
+// The C library: host calls over byte buffers. tools/build makes the archive, include/resampler.h declares the calls for C, and the contracts cite the definitions of `host_spec`.
 mod calls;
 
 pub use calls::{
