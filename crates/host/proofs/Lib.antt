@@ -1,3 +1,4 @@
 pub mod Pairs
 pub mod ImageParts
 pub mod FedBytes
+pub mod Retuning
