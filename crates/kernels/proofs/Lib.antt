@@ -1,4 +1,5 @@
 mod CoefficientTable
+mod Columns
 mod Scales
 mod Mean
 mod Sixths

@@ -1,0 +1,22 @@
+-- `kernels::polynomial::Polynomial::linear` meets its contract. Assumes nothing.
+use Rattle.std.proofs.Common.{◌^◌, ℤ, pos, ◌*ℤ◌, ap, ◌∙◌}
+use Rattle.integers.specs.Ring.{Expr, var, lit, ◌:+◌, ◌:*◌, ring}
+use Rattle.integers.specs.Machine.{fits, computes}
+use Rattle.kernels_spec.specs.Kernel.{four}
+use Rattle.kernels_spec.specs.Value.{polynomial}
+use Rattle.kernels_spec.proofs.Rows.{polynomial_e}
+use Rattle.kernels.proofs.Columns.{numbers, known}
+use Rattle.kernels.proofs.polynomial.Polynomial.linear.Goals as goal
+
+abbrev sum : Expr
+sum = var 1 :* var 4 :+ var 0 :* lit (pos (2 ^ 14))
+
+pub returns : goal.returns
+unfolding polynomial
+returns c =
+    let p = c.args.self in
+    ap (λ (z : ℤ). z *ℤ pos (2 ^ 28)) (computes (known p) sum tt)
+    ∙ ring (numbers p) (sum :* lit (pos (2 ^ 28))) (polynomial_e (four (var 0) (var 1) (lit (pos 0)) (lit (pos 0))) (var 4) (lit (pos (2 ^ 14)))) tt
+
+pub overflow_add-result : goal.overflow_add-result
+overflow_add-result c = fits (known c.args.self) sum tt
