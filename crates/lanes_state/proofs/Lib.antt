@@ -1,2 +1,3 @@
 pub mod Parts
 pub mod LaneStates
+pub mod Windows
