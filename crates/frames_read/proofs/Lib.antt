@@ -1,2 +1,4 @@
-mod Lent
-pub mod Lengths
+mod Ends
+mod Scans
+mod Placed
+pub mod Taken

@@ -1,1 +1,5 @@
-pub mod Front
+pub mod Ends
+pub mod Scanned
+pub mod DigitsRead
+pub mod Counted
+pub mod AcceptedAs

@@ -1,4 +1,5 @@
 pub mod Line
+pub mod Last
 pub mod Frame
 pub mod InOrder
 pub mod StartLine
