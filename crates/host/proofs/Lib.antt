@@ -1,4 +1,2 @@
-pub mod Pairs
 pub mod ImageParts
 pub mod FedBytes
-pub mod Retuning

@@ -1,2 +1,0 @@
-mod SamplesMoved
-mod LineRead

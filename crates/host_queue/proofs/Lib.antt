@@ -1,2 +1,1 @@
 pub mod KnownBytes
-pub mod FrontAlone
