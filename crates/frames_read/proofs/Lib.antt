@@ -1,4 +1,3 @@
-mod Ends
 mod Scans
 mod Placed
 pub mod Taken
