@@ -1,3 +1,4 @@
 mod Scans
 mod Placed
+pub mod Lengths
 pub mod Taken
