@@ -13,11 +13,11 @@ loop-i-init g c = none-placed g.E.Entry.layout c.args.line.digits.text.now c.arg
 pub loop-i-preserved : goal.loop-i-preserved
 loop-i-preserved g c =
     one_more g.E.Entry.layout c.args.line.digits.text.now c.args.samples.now c.loop-i.i c.loop-i.invariant c.put.ensures
-    (to_z-of_z {w = w16} (sfits_of c.cast_signed.type_inv) ∙ c.cast_signed.ensures ∙ ap signed c.field-number.ensures.value)
+    (to_z-of_z {w = w16} (sfits_of c.signed.type_inv) ∙ c.signed.ensures ∙ ap signed c.four-number.ensures)
 
-pub returns : goal.returns
-returns g c =
+pub returns-clause-filled : goal.returns-clause-filled
+returns-clause-filled g c =
     let ds = c.args.line.digits.text.now in
     let old = c.args.samples.now in
     let e : c.loop-i.i ≡ c.args.line.fields.count = omega arith in
-    all-placed g.E.Entry.layout ds old c.loop-i.i c.loop-i.invariant g.met.E.Entry.regular (omega (arith, c.requires)) ∙ ap (λ n. over (laid g.E.Entry.layout ds old n) old) e
+    λ h. all-placed g.E.Entry.layout ds old c.loop-i.i c.loop-i.invariant g.met.E.Entry.regular (omega (arith, h)) ∙ ap (λ n. over (laid g.E.Entry.layout ds old n) old) e
