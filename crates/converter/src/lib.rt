@@ -7,4 +7,3 @@ mod samples;
 
 pub use block::{feed, feed_accepted};
 pub use parts::{feed_accepted_parts, feed_parts};
-pub use samples::window_at;
