@@ -37,6 +37,17 @@ slice_bounds-feed_accepted-start g c =
     let f = laid-fits g.E.Entry.layout r.some r.each c.feed_accepted-first.ensures.fed in
     omega (arith, f.1, f.3, c.place-start.ensures.place)
 
+-- before the sums, which a feed of another state meets too
+pub returns : goal.returns
+returns g c =
+    let r = g.met.E.Entry.regular in
+    let first = c.feed_accepted-first in
+    let second = c.feed_accepted-second in
+    let fit = two-fit g.E.Entry.layout r.some r.each first.ensures.fed c.place-start.ensures.place second.ensures.fed in
+    let same = ap (λ n. n / g.E.Entry.layout.width) (laid-fits g.E.Entry.layout r.some r.each first.ensures.fed).3 in
+    let clips = c.add_clips.ensures ∙ fits-same (plus first.result.counts.clips second.result.counts.clips) (omega (arith, fit, same, c.place-start.ensures.fits)) in
+    lent-laid g.E.Entry.layout r.some r.each first.ensures.fed c.place-start.ensures.place second.ensures.fed c.in-Hungry.is clips
+
 pub overflow_add-result : goal.overflow_add-result
 overflow_add-result g c = omega (arith, c.feed_accepted-first.ensures.few, c.feed_accepted-second.ensures.few)
 
@@ -47,13 +58,3 @@ overflow_add-result-2 g c =
     let f = laid-fits g.E.Entry.layout r.some r.each c.feed_accepted-first.ensures.fed in
     let same = ap (λ n. n / g.E.Entry.layout.width) f.3 in
     omega (arith, fit, same, c.place-start.ensures.fits)
-
-pub returns : goal.returns
-returns g c =
-    let r = g.met.E.Entry.regular in
-    let first = c.feed_accepted-first in
-    let second = c.feed_accepted-second in
-    let fit = two-fit g.E.Entry.layout r.some r.each first.ensures.fed c.place-start.ensures.place second.ensures.fed in
-    let same = ap (λ n. n / g.E.Entry.layout.width) (laid-fits g.E.Entry.layout r.some r.each first.ensures.fed).3 in
-    let clips = c.add_clips.ensures ∙ fits-same (plus first.result.counts.clips second.result.counts.clips) (omega (arith, fit, same, c.place-start.ensures.fits)) in
-    lent-laid g.E.Entry.layout r.some r.each first.ensures.fed c.place-start.ensures.place second.ensures.fed c.in-Hungry.is clips
