@@ -1,2 +1,3 @@
 pub mod ImageParts
 pub mod FedBytes
+pub mod Retuning
