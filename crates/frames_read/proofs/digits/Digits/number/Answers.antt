@@ -1,10 +1,10 @@
--- `frames_read::digits::Digits::field` meets its contract: what was read, with the digits that are left behind it, is the number of all. Assumes nothing.
+-- `frames_read::digits::Digits::number` meets its contract: what was read, with the digits that are left behind it, is the number of all. Assumes nothing.
 use Rattle.std.proofs.Common.{◌≡◌, ◌+◌, ◌-◌, ◌<◌, ◌≤◌, true, length, take, drop, List, ℕ, sym, ap, ◌∙◌, arith, drop_of_length-le, length-take}
 use Rattle.frames_spec.specs.Line.{all_digits, number, number_after}
 use Rattle.frames_spec.proofs.Hex.{digit_at, number_step, power_small, digit-more}
 use Rattle.frames_spec.proofs.Fronts.{field-right}
-use Rattle.frames_read.proofs.digits.Digits.field.Goals as goal
-use Rattle.frames_read.proofs.digits.Digits.field.Goals.{In-loop-b}
+use Rattle.frames_read.proofs.digits.Digits.number.Goals as goal
+use Rattle.frames_read.proofs.digits.Digits.number.Goals.{In-loop-b}
 
 -- the digits of the field, and where a turn stands among them
 abbrev items : In-loop-b → List ℕ
